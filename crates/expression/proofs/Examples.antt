@@ -1,0 +1,86 @@
+-- Refusals before any table, as one table under one theorem: 01's sheets to try, and orders of tests that are easily got wrong. Assumes nothing.
+use mathlib.Core.Path.{_≡_, refl}
+use mathlib.Core.Bool.{Bool, true, false, cond, not, _&&_, _||_}
+use mathlib.Core.List.{List, [], _∷_, _++_}
+use Prim.Native.Nat.{ℕ, zero, suc, _+_, _*_, _^_}
+use lib.Dec.{eqb, ltb, leb}
+use lib.ListN.{length}
+use Rattle.lists.specs.Lists.{every}
+use Rattle.labels.specs.Labels.{labelCount}
+use Rattle.expression.specs.declared.Checked.{Checked}
+use Rattle.expression.specs.declared.Checked.the-variants.{Passed, Refused}
+use Rattle.expression.specs.Limits.{workspaceNeed}
+use Rattle.expression.specs.Commands.{oneOperand, twoOperands, isCommand, operandCount, commandOf, readCommand, readAt}
+use Rattle.expression.specs.Reading.{noCounts, newAtoms, newRules, depthAfter, counted, countFault, behind, readFrom, reading}
+use Rattle.expression.specs.Checks.{Request, firstOf, isFaulty, faultNumber, faultPlace, countsOf, isLimit, clashes, isAbsent, checks, check}
+
+same : Checked → Checked → Bool
+same Passed Passed = true
+same Passed (Refused n at) = false
+same (Refused m b) Passed = false
+same (Refused m b) (Refused n at) = eqb m n && eqb b at
+
+record Row : Type 0 where
+  asked : Request
+  says : Checked
+
+-- bytes, limits and assumptions, with just the room that is needed
+row : List ℕ → ℕ → ℕ → ℕ → ℕ → Checked → Row
+row s P G i o c = record {
+  asked = record { bytes = s; pairLimit = P; subsetLimit = G; room = workspaceNeed P G; assumedTrue = i; assumedFalse = o };
+  says = c;
+}
+
+cramp : Row → Row
+cramp r = record {
+  asked = record { bytes = r .asked .bytes; pairLimit = r .asked .pairLimit; subsetLimit = r .asked .subsetLimit; room = 0; assumedTrue = r .asked .assumedTrue; assumedFalse = r .asked .assumedFalse };
+  says = r .says;
+}
+
+-- the bytes n times
+times : ℕ → List ℕ → List ℕ
+times zero s = []
+times (suc n) s = s ++ times n s
+
+listed : List ℕ
+listed = 0x11 ∷ 0 ∷ 0x12 ∷ 1 ∷ 0x21 ∷ 0x41 ∷ 0 ∷ 1 ∷ []
+
+rows : List Row
+rows =
+    row listed 32 32 0 0 Passed
+    -- an assumption on an absent atom, bit 63 included
+    ∷ row listed 32 32 2 0 (Refused 13 8)
+    ∷ row listed 32 32 0 (2 ^ 63) (Refused 13 8)
+    ∷ row [] 32 32 0 0 (Refused 12 0)
+    ∷ row (0x21 ∷ []) 32 32 0 0 (Refused 11 0)
+    ∷ row (0x11 ∷ 7 ∷ []) 32 32 0 0 Passed
+    ∷ row (0x11 ∷ 8 ∷ []) 32 32 0 0 (Refused 7 0)
+    ∷ row (0x41 ∷ 0 ∷ []) 32 32 0 0 (Refused 6 0)
+    ∷ row (0x41 ∷ 0 ∷ 0 ∷ []) 32 32 0 0 (Refused 8 0)
+    -- an overlong expression, limits, room and a clash come before what is read
+    ∷ row (times 4097 (0 ∷ [])) 0 32 3 1 (Refused 1 0)
+    ∷ row [] 0 1025 3 1 (Refused 2 0)
+    ∷ cramp (row [] 1024 1024 3 1 (Refused 3 0))
+    ∷ row [] 32 32 (2 ^ 63) (2 ^ 63) (Refused 4 0)
+    -- 6 before 7, 7 before 8, 8 before 11
+    ∷ row (0x41 ∷ 8 ∷ []) 32 32 0 0 (Refused 6 0)
+    ∷ row (0x41 ∷ 8 ∷ 8 ∷ []) 32 32 0 0 (Refused 7 0)
+    ∷ row (0x31 ∷ 3 ∷ 3 ∷ []) 32 32 0 0 (Refused 8 0)
+    ∷ row (0x41 ∷ 0 ∷ 1 ∷ []) 32 32 0 0 (Refused 11 0)
+    -- the first faulty command, not the lowest number
+    ∷ row (0x11 ∷ 0 ∷ 0x11 ∷ 8 ∷ 0x99 ∷ []) 32 32 0 0 (Refused 7 2)
+    ∷ row (0x11 ∷ 0 ∷ 0x11 ∷ 1 ∷ []) 32 32 0 0 (Refused 12 4)
+    -- a ninth operand
+    ∷ row (times 9 (0x11 ∷ 0 ∷ [])) 32 32 0 0 (Refused 10 16)
+    -- a 64th atom that would also be a ninth operand; 63 atoms are read
+    ∷ row (times 8 (0x11 ∷ 0 ∷ []) ++ times 55 (0x21 ∷ 0x11 ∷ 0 ∷ []) ++ (0x11 ∷ 0 ∷ [])) 32 32 0 0 (Refused 9 181)
+    ∷ row (0x11 ∷ 0 ∷ times 62 (0x11 ∷ 0 ∷ 0x21 ∷ [])) 32 32 (2 ^ 62) 0 Passed
+    ∷ []
+
+right : Row → Bool
+right r = same (check labelCount (r .asked)) (r .says)
+
+examples : every right rows ≡ true
+unfolding every right rows row cramp times listed same check checks isAbsent clashes isLimit countsOf faultPlace faultNumber isFaulty firstOf reading readFrom behind
+    countFault counted depthAfter newRules newAtoms noCounts readAt readCommand commandOf operandCount isCommand twoOperands oneOperand
+examples = refl

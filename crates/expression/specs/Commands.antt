@@ -1,0 +1,50 @@
+-- One command from bytes (01, "The sheet"), over K labels. Assumes nothing.
+use mathlib.Core.Bool.{Bool, cond, not, _&&_, _||_}
+use mathlib.Core.List.{List}
+use Prim.Native.Nat.{ℕ, _+_, _-_}
+use lib.Dec.{eqb, ltb, leb}
+use lib.ListN.{length, getD}
+use Rattle.expression.specs.declared.Kind.{Kind}
+use Rattle.expression.specs.declared.Kind.the-variants.{Head, Positive, Negative}
+use Rattle.expression.specs.declared.Command.{Command}
+use Rattle.expression.specs.declared.Command.the-variants.{Atom, Rule, Union, Relabel, Connect}
+use Rattle.expression.specs.declared.Read.{Read}
+use Rattle.expression.specs.declared.Read.the-variants.{Command as Got, Fault}
+use Rattle.expression.specs.Refusals.{unknown, cut, group, same}
+
+-- 11 g and 12 g; 31, 41, 42, 43 then i j
+unfoldable pub oneOperand : ℕ → Bool
+oneOperand b = eqb b 0x11 || eqb b 0x12
+
+unfoldable pub twoOperands : ℕ → Bool
+twoOperands b = eqb b 0x31 || eqb b 0x41 || eqb b 0x42 || eqb b 0x43
+
+unfoldable pub isCommand : ℕ → Bool
+isCommand b = eqb b 0x21 || oneOperand b || twoOperands b
+
+unfoldable pub operandCount : ℕ → ℕ
+operandCount b = cond (twoOperands b) 2 (cond (oneOperand b) 1 0)
+
+-- a command by its byte and operands
+unfoldable pub commandOf : ℕ → ℕ → ℕ → Command
+commandOf b x y =
+    cond (eqb b 0x11) (Atom x)
+    (cond (eqb b 0x12) (Rule x)
+    (cond (eqb b 0x21) Union
+    (cond (eqb b 0x31) (Relabel x y)
+    (cond (eqb b 0x41) (Connect Head x y)
+    (cond (eqb b 0x42) (Connect Positive x y)
+    (Connect Negative x y))))))
+
+-- with command byte b, n bytes from it to the end, and the operands x and y: tests 5 to 8 in order, else the command and the offset after it
+unfoldable pub readCommand : ℕ → ℕ → ℕ → ℕ → ℕ → ℕ → Read
+readCommand K at n b x y =
+    cond (not (isCommand b)) (Fault unknown)
+    (cond (ltb n (1 + operandCount b)) (Fault cut)
+    (cond ((oneOperand b || twoOperands b) && leb K x || twoOperands b && leb K y) (Fault group)
+    (cond (twoOperands b && eqb x y) (Fault same)
+    (Got (commandOf b x y) (at + (1 + operandCount b))))))
+
+-- the command at an offset; past the end there is none
+unfoldable pub readAt : ℕ → List ℕ → ℕ → Read
+readAt K s at = readCommand K at (length s - at) (getD s at 0) (getD s (at + 1) 0) (getD s (at + 2) 0)

@@ -1,0 +1,32 @@
+-- The fixed limits (01, "The sheet": Limits) and the room that tables need. Assumes nothing.
+use Prim.Native.Nat.{ℕ, _+_, _*_}
+
+-- bytes of an expression
+abbrev pub byteLimit : ℕ
+byteLimit = 4096
+
+-- copies
+abbrev pub atomLimit : ℕ
+atomLimit = 63
+
+abbrev pub ruleLimit : ℕ
+ruleLimit = 256
+
+-- parts at a time
+abbrev pub depthLimit : ℕ
+depthLimit = 8
+
+-- the most that the limits P and G may be
+abbrev pub tableLimit : ℕ
+tableLimit = 1024
+
+-- words of one pair, and of one table of P pairs
+abbrev pub rowWords : ℕ → ℕ
+rowWords G = G + 2
+
+abbrev pub areaWords : ℕ → ℕ → ℕ
+areaWords P G = P * rowWords G
+
+-- one area for each operand, and scratch
+abbrev pub workspaceNeed : ℕ → ℕ → ℕ
+workspaceNeed P G = (depthLimit + 1) * areaWords P G

@@ -1,0 +1,36 @@
+// Postfix expressions of atoms and rules (01: sheets): commands, what reading them finds, and the checks that come before any table.
+
+// Which set of a rule a connect puts atoms into.
+pub enum Kind {
+    Head,
+    Positive,
+    Negative,
+}
+
+pub enum Command {
+    Atom(u32),
+    Rule(u32),
+    Union,
+    Relabel(u32, u32),
+    Connect(Kind, u32, u32),
+}
+
+// What stands at an offset: a command and the offset after it, or the number of a refusal.
+pub enum Read {
+    Command(Command, usize),
+    Fault(u64),
+}
+
+// What the commands so far leave: how many atoms and rules, how many operands on the stack, and the most there were at once.
+pub struct Counts {
+    pub atoms: u64,
+    pub rules: u64,
+    pub depth: u64,
+    pub deepest: u64,
+}
+
+// Whether all tests passed, or the number and the place of the first refusal.
+pub enum Checked {
+    Passed,
+    Refused(u64, usize),
+}

@@ -1,0 +1,4 @@
+pub mod Members
+pub mod Comparisons
+pub mod Canon
+pub mod Runs

@@ -1,0 +1,3 @@
+pub mod Interpretations
+pub mod Stacks
+pub mod Readings

@@ -1,0 +1,1 @@
+// What an expression means: its atoms and rules, its models and its answer sets. The definitions are in specs/, the laws in proofs/.
