@@ -2,14 +2,14 @@
 use mathlib.Core.Path.{_≡_, refl, sym, ap, ap₂, _∙_, subst}
 use mathlib.Core.Logic.{_⊎_, inl, inr, ⊎-elim}
 use mathlib.Core.Bool.{Bool, true, false, cond, _||_, true≢false, false≢true}
-use mathlib.Core.List.{List, [], _∷_, _++_, List·Memᴰ, List·Memᴰ·head, List·Memᴰ·tail, List·Memᴰ·not-nil, List·Memᴰ·cases-cons, List·Memᴰ·eq-of-singleton, Memᴰ·append-left, Memᴰ·append-right, List·Memᴰ·append-cases, append-assoc}
+use mathlib.Core.List.{List, [], _∷_, _++_, map, Memᴰ·map, Memᴰ·of-map, Memᴰ·cast, List·Memᴰ, List·Memᴰ·head, List·Memᴰ·tail, List·Memᴰ·not-nil, List·Memᴰ·cases-cons, List·Memᴰ·eq-of-singleton, Memᴰ·append-left, Memᴰ·append-right, List·Memᴰ·append-cases, append-assoc}
 use Prim.Native.Nat.{ℕ}
 use lib.Dec.{eqb}
-use Rattle.lists.specs.Lists.{some}
-use Rattle.lists.proofs.Members.{listed, listed-is}
+use Rattle.lists.specs.Lists.{some, keep}
+use Rattle.lists.proofs.Members.{listed, listed-is, not-listed, keep-of, keep-is}
 use Rattle.semantics.specs.Expressions.{Expr, atom, rule, union, relabel, connect}
 use Rattle.semantics.specs.Programs.{numbers}
-use Rattle.semantics.specs.AnswerSets.{Interpretation, ProperSubset, Assumptions, Obeys}
+use Rattle.semantics.specs.AnswerSets.{Interpretation, ProperSubset, Assumptions, Obeys, allObeying, ofList}
 
 -- ---- interpretations that agree, and two combined
 
@@ -83,6 +83,84 @@ free-append o [] ys = refl
 free-append o (x ∷ xs) ys =
     ap (λ l. cond (o .trues x || o .falses x) [] (x ∷ []) ++ l) (free-append o xs ys)
     ∙ sym (append-assoc (cond (o .trues x || o .falses x) [] (x ∷ [])) (free o xs) (free o ys))
+
+-- ---- all interpretations that obey
+
+module _ (o : Assumptions) where
+  -- the first atom is taken, or left out
+  abbrev First : ℕ → List ℕ → List ℕ → Type 0
+  First c cs l = ((m : List ℕ) × List·Memᴰ m (allObeying o cs) × (l ≡ c ∷ m) × (o .falses c ≡ false)) ⊎ (List·Memᴰ l (allObeying o cs) × (o .trues c ≡ false))
+
+  first : (c : ℕ) (cs : List ℕ) {l : List ℕ} → List·Memᴰ l (allObeying o (c ∷ cs)) → First c cs l
+  unfolding allObeying
+  first c cs {l} m = ⊎-elim (λ n. inl (taken (o .falses c) refl n)) (λ n. inr (left (o .trues c) refl n)) (List·Memᴰ·append-cases (cond (o .falses c) [] (map (λ k. c ∷ k) (allObeying o cs))) m)
+    where
+      taken : (b : Bool) → o .falses c ≡ b → List·Memᴰ l (cond b [] (map (λ k. c ∷ k) (allObeying o cs)))
+          → (k : List ℕ) × List·Memᴰ k (allObeying o cs) × (l ≡ c ∷ k) × (o .falses c ≡ false)
+      taken true e n = absurd (List·Memᴰ·not-nil n)
+      taken false e n = let r = Memᴰ·of-map (λ k. c ∷ k) (allObeying o cs) n in (r .0, r .1, sym (r .2), e)
+
+      left : (b : Bool) → o .trues c ≡ b → List·Memᴰ l (cond b [] (allObeying o cs)) → List·Memᴰ l (allObeying o cs) × (o .trues c ≡ false)
+      left true e n = absurd (List·Memᴰ·not-nil n)
+      left false e n = (n, e)
+
+  -- its atoms are among xs, and none is assumed false
+  pub obeying-in : (xs l : List ℕ) {c : ℕ} → List·Memᴰ l (allObeying o xs) → List·Memᴰ c l → List·Memᴰ c xs × (o .falses c ≡ false)
+  unfolding allObeying
+  obeying-in [] l {c} m k = absurd (List·Memᴰ·not-nil (subst (List·Memᴰ c) (List·Memᴰ·eq-of-singleton m) k))
+  obeying-in (x ∷ xs) l {c} m k = step (λ l′ n t. obeying-in xs l′ n t) (first x xs m)
+    where
+      step : ((l′ : List ℕ) → List·Memᴰ l′ (allObeying o xs) → List·Memᴰ c l′ → List·Memᴰ c xs × (o .falses c ≡ false)) → First x xs l
+          → List·Memᴰ c (x ∷ xs) × (o .falses c ≡ false)
+      step f (inl r) =
+          ⊎-elim (λ e. (List·Memᴰ·head e, ap (o .falses) e ∙ r .3)) (λ n. let z = f (r .0) (r .1) n in (List·Memᴰ·tail (z .0), z .1)) (List·Memᴰ·cases-cons (subst (List·Memᴰ c) (r .2) k))
+      step f (inr r) = let z = f l (r .0) k in (List·Memᴰ·tail (z .0), z .1)
+
+  -- those assumed true are among its atoms
+  obeying-has : (xs l : List ℕ) → List·Memᴰ l (allObeying o xs) → (c : ℕ) → List·Memᴰ c xs → o .trues c ≡ true → List·Memᴰ c l
+  obeying-has [] l m c h e = absurd (List·Memᴰ·not-nil h)
+  obeying-has (x ∷ xs) l m c h e = step (λ l′ n t. obeying-has xs l′ n c t e) (first x xs m) (List·Memᴰ·cases-cons h)
+    where
+      step : ((l′ : List ℕ) → List·Memᴰ l′ (allObeying o xs) → List·Memᴰ c xs → List·Memᴰ c l′) → First x xs l → (c ≡ x) ⊎ List·Memᴰ c xs → List·Memᴰ c l
+      step f (inl r) (inl q) = subst (List·Memᴰ c) (sym (r .2)) (List·Memᴰ·head q)
+      step f (inl r) (inr t) = subst (List·Memᴰ c) (sym (r .2)) (List·Memᴰ·tail (f (r .0) (r .1) t))
+      step f (inr r) (inl q) = absurd (true≢false (sym e ∙ ap (o .trues) q ∙ r .1))
+      step f (inr r) (inr t) = f l (r .0) t
+
+  -- each obeys
+  pub obeying-obeys : (xs l : List ℕ) → List·Memᴰ l (allObeying o xs) → Obeys o xs (ofList l)
+  unfolding ofList
+  obeying-obeys xs l m = record {
+    has-trues = λ c k h. listed l (obeying-has xs l m c k h);
+    lacks-falses = λ c k h. not-listed c l (λ n. true≢false (sym h ∙ obeying-in xs l m n .1));
+  }
+
+  -- and each that obeys agrees with one of them
+  pub obeying-of : (xs : List ℕ) {p : Interpretation} → Obeys o xs p → List·Memᴰ (keep p xs) (allObeying o xs)
+  unfolding allObeying keep
+  obeying-of [] h = List·Memᴰ·head refl
+  obeying-of (x ∷ xs) {p} h = step (p x) refl (obeying-of xs (record { has-trues = λ c m. h .has-trues c (List·Memᴰ·tail m); lacks-falses = λ c m. h .lacks-falses c (List·Memᴰ·tail m) }))
+    where
+      out : (b : Bool) → (b ≡ true → ⊥) → {k : List ℕ} (ks : List (List ℕ)) → List·Memᴰ k ks → List·Memᴰ k (cond b [] ks)
+      out true e ks m = absurd (e refl)
+      out false e ks m = m
+
+      step : (b : Bool) → p x ≡ b → List·Memᴰ (keep p xs) (allObeying o xs)
+          → List·Memᴰ (cond b (x ∷ keep p xs) (keep p xs)) (cond (o .falses x) [] (map (λ l. x ∷ l) (allObeying o xs)) ++ cond (o .trues x) [] (allObeying o xs))
+      step true e m =
+          Memᴰ·append-left (cond (o .trues x) [] (allObeying o xs))
+          (out (o .falses x) (λ q. true≢false (sym e ∙ h .lacks-falses x (List·Memᴰ·head refl) q)) (map (λ l. x ∷ l) (allObeying o xs)) (Memᴰ·map (λ l. x ∷ l) m))
+      step false e m =
+          Memᴰ·append-right (cond (o .falses x) [] (map (λ l. x ∷ l) (allObeying o xs)))
+          (out (o .trues x) (λ q. true≢false (sym (h .has-trues x (List·Memᴰ·head refl) q) ∙ e)) (allObeying o xs) m)
+
+pub keep-agrees : (p : Interpretation) (xs : List ℕ) → Agree xs (ofList (keep p xs)) p
+unfolding ofList
+keep-agrees p xs c m = step (p c) refl
+  where
+    step : (b : Bool) → p c ≡ b → some (eqb c) (keep p xs) ≡ b
+    step true e = listed (keep p xs) (keep-of p xs m e)
+    step false e = not-listed c (keep p xs) (λ k. true≢false (sym (keep-is p xs k .1) ∙ e))
 
 -- ---- subsets
 

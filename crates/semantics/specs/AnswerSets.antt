@@ -1,8 +1,9 @@
 -- Models and answer sets of an expression's rules (01, "Trade and terms": plans that meet every rule, grounded plans), and assumptions (01: pins). Assumes nothing.
 use mathlib.Core.Path.{_≡_}
 use mathlib.Core.Bool.{Bool, true, false, cond, not, _||_}
-use mathlib.Core.List.{List, [], _∷_, List·Memᴰ}
+use mathlib.Core.List.{List, [], _∷_, _++_, map, List·Memᴰ}
 use Prim.Native.Nat.{ℕ}
+use lib.Dec.{eqb}
 use Rattle.lists.specs.Lists.{some, every}
 use Rattle.labels.specs.Sets.{has}
 use Rattle.semantics.specs.Expressions.{Expr}
@@ -56,3 +57,11 @@ pub record Obeys (o : Assumptions) (xs : List ℕ) (p : Interpretation) : Type 0
 -- assumptions as two masks
 unfoldable pub byMasks : ℕ → ℕ → Assumptions
 byMasks i o = record { trues = ofMask i; falses = ofMask o }
+
+-- every interpretation of the atoms xs that obeys the assumptions, each as the list of its atoms
+unfoldable pub allObeying : Assumptions → List ℕ → List (List ℕ)
+allObeying o [] = [] ∷ []
+allObeying o (c ∷ cs) = cond (o .falses c) [] (map (λ l. c ∷ l) (allObeying o cs)) ++ cond (o .trues c) [] (allObeying o cs)
+
+unfoldable pub ofList : List ℕ → Interpretation
+ofList l c = some (eqb c) l

@@ -1,0 +1,4 @@
+pub mod Entries
+pub mod Subsets
+pub mod Marks
+pub mod Answers

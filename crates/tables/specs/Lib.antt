@@ -1,0 +1,3 @@
+pub mod Algebras
+pub mod Triples
+pub mod Definitions
