@@ -4,17 +4,17 @@ use mathlib.Core.Logic.{_⊎_, inl, inr, ⊎-elim}
 use mathlib.Core.Bool.{Bool, true, false, cond, not, _&&_, _||_, true≢false, false≢true, or-false, and-false, and-true, or-true}
 use mathlib.Core.List.{List, [], _∷_, _++_, map, List·Memᴰ}
 use Prim.Native.Nat.{ℕ, zero, suc, _+_, _-_, _*_, _/_, _%_, _^_, _≤_, _<_, zero-le, suc-le-suc}
-use native.Mathlib.Nat.{pow-suc, mul-div-cancel, mul-mod-left, mod-lt, zero-lt-suc, div-eq-of-lt, div-lt-iff-lt-mul, div-one, not-suc-le-zero, le-of-suc-le-suc, zero-div}
+use native.Mathlib.Nat.{pow-suc, mul-div-cancel, mul-mod-left, mod-lt, zero-lt-suc, div-eq-of-lt, div-lt-iff-lt-mul, div-one, not-suc-le-zero, le-of-suc-le-suc, zero-div, one-mul, zero-add, le-refl}
 use native.Mathlib.Numerals.{one-add}
 use native.Mathlib.Decide.{ℕ-discrete}
 use native.Mathlib.Omega.{arith}
 use lib.Arith.{bin-ind}
-use lib.Bits.{bitAnd, bitOr, and-shr, and-mod, or-shr, or-mod}
+use lib.Bits.{bitAnd, bitOr, and-shr, and-mod, or-shr, or-mod, or-shifted}
 use lib.Pow.{shr-shr, pow-pos, pow-mono}
 use lib.Dec.{T, eqb, eqb→eq, eqb-refl, eqb·zero-suc, eqb·suc-zero, eqb·suc-suc}
-use borrow.Author.Tests.{eqb-true, eq-eqb}
+use borrow.Author.Tests.{eqb-true, eq-eqb, ne-eqb}
 use Rattle.lists.specs.Lists.{some}
-use Rattle.lists.proofs.Members.{some-append}
+use Rattle.lists.proofs.Members.{some-append, not-true-false}
 use Rattle.labels.specs.Labels.{rename}
 use Rattle.labels.specs.Sets.{has, without, replace}
 
@@ -233,3 +233,22 @@ set-ext =
         step : (d : Bool) → has 0 n ≡ d → n ≡ b
         step true e = let p = odd n e in let q = odd b (sym h ∙ e) in omega arith
         step false e = let p = even n e in let q = even b (sym h ∙ e) in omega arith
+
+-- ---- one digit on top of smaller ones
+
+pub has-ge : (m n a : ℕ) → a < 2 ^ n → n ≤ m → has m a ≡ false
+has-ge m n a h l = not-true-false (has m a) (λ e. let k = has-le m a e in omega (arith, pow-mono l))
+
+module _ (n a : ℕ) (h : a < 2 ^ n) where
+  digit : (m : ℕ) → has m (2 ^ n + a) ≡ (eqb m n || has m a)
+  digit m =
+      ap (λ x. has m (x + a)) (sym (one-mul (2 ^ n))) ∙ ap (has m) (sym (or-shifted 1 n a h)) ∙ has-or m (1 * 2 ^ n) a
+      ∙ ap (λ b. b || has m a) (ap (has m) (one-mul (2 ^ n)) ∙ has-pow m n)
+
+  pub has-top : (b : Bool) → has n (cond b (2 ^ n) 0 + a) ≡ b
+  has-top true = digit n ∙ ap (λ b. b || has n a) (eq-eqb n n refl)
+  has-top false = ap (has n) (zero-add a) ∙ has-ge n n a h (le-refl n)
+
+  pub has-below : (b : Bool) (m : ℕ) → m < n → has m (cond b (2 ^ n) 0 + a) ≡ has m a
+  has-below true m l = digit m ∙ ap (λ b. b || has m a) (ne-eqb m n (λ e. omega arith))
+  has-below false m l = ap (has m) (zero-add a)

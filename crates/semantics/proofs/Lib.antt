@@ -1,3 +1,4 @@
 pub mod Interpretations
 pub mod Stacks
 pub mod Readings
+pub mod Masks

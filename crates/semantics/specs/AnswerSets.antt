@@ -2,7 +2,8 @@
 use mathlib.Core.Path.{_≡_}
 use mathlib.Core.Bool.{Bool, true, false, cond, not, _||_}
 use mathlib.Core.List.{List, [], _∷_, _++_, map, List·Memᴰ}
-use Prim.Native.Nat.{ℕ}
+use Prim.Native.Nat.{ℕ, _^_}
+use lib.Bits.{bitOr}
 use lib.Dec.{eqb}
 use Rattle.lists.specs.Lists.{some, every}
 use Rattle.labels.specs.Sets.{has}
@@ -65,3 +66,8 @@ allObeying o (c ∷ cs) = cond (o .falses c) [] (map (λ l. c ∷ l) (allObeying
 
 unfoldable pub ofList : List ℕ → Interpretation
 ofList l c = some (eqb c) l
+
+-- the mask of an interpretation's atoms among xs
+unfoldable pub maskOf : Interpretation → List ℕ → ℕ
+maskOf p [] = 0
+maskOf p (c ∷ cs) = cond (p c) (bitOr (2 ^ c) (maskOf p cs)) (maskOf p cs)

@@ -1,0 +1,4 @@
+pub mod Semirings
+pub mod Items
+pub mod Sums
+pub mod First
