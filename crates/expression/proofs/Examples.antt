@@ -1,10 +1,9 @@
 -- Refusals before any table, as one table under one theorem: 01's sheets to try, and orders of tests that are easily got wrong. Assumes nothing.
 use mathlib.Core.Path.{_≡_, refl}
-use mathlib.Core.Bool.{Bool, true, false, cond, not, _&&_, _||_}
+use mathlib.Core.Bool.{Bool, true, false, _&&_}
 use mathlib.Core.List.{List, [], _∷_, _++_}
-use Prim.Native.Nat.{ℕ, zero, suc, _+_, _*_, _^_}
-use lib.Dec.{eqb, ltb, leb}
-use lib.ListN.{length}
+use Prim.Native.Nat.{ℕ, zero, suc, _^_}
+use lib.Dec.{eqb}
 use Rattle.lists.specs.Lists.{every}
 use Rattle.labels.specs.Labels.{labelCount}
 use Rattle.expression.specs.declared.Checked.{Checked}

@@ -1,17 +1,16 @@
 -- What is in a union, in a set less one, in a set where one number gives way to another; how large a set's number is. Assumes nothing.
-use mathlib.Core.Path.{_≡_, refl, sym, ap, ap₂, _∙_, subst}
-use mathlib.Core.Logic.{_⊎_, inl, inr, ⊎-elim}
-use mathlib.Core.Bool.{Bool, true, false, cond, not, _&&_, _||_, true≢false, false≢true, or-false, and-false, and-true, or-true}
-use mathlib.Core.List.{List, [], _∷_, _++_, map, List·Memᴰ}
+use mathlib.Core.Path.{_≡_, refl, sym, ap, ap₂, _∙_}
+use mathlib.Core.Logic.{_⊎_, inl, inr}
+use mathlib.Core.Bool.{Bool, true, false, cond, not, _&&_, _||_, true≢false, or-false, and-false, and-true, or-true}
+use mathlib.Core.List.{List, [], _∷_, _++_, map}
 use Prim.Native.Nat.{ℕ, zero, suc, _+_, _-_, _*_, _/_, _%_, _^_, _≤_, _<_, zero-le, suc-le-suc}
-use native.Mathlib.Nat.{pow-suc, mul-div-cancel, mul-mod-left, mod-lt, zero-lt-suc, div-eq-of-lt, div-lt-iff-lt-mul, div-one, not-suc-le-zero, le-of-suc-le-suc, zero-div, one-mul, zero-add, le-refl}
+use native.Mathlib.Nat.{pow-suc, mul-div-cancel, mul-mod-left, mod-lt, zero-lt-suc, div-one, not-suc-le-zero, le-of-suc-le-suc, zero-div, one-mul, zero-add, le-refl}
 use native.Mathlib.Numerals.{one-add}
-use native.Mathlib.Decide.{ℕ-discrete}
 use native.Mathlib.Omega.{arith}
 use lib.Arith.{bin-ind}
 use lib.Bits.{bitAnd, bitOr, and-shr, and-mod, or-shr, or-mod, or-shifted}
-use lib.Pow.{shr-shr, pow-pos, pow-mono}
-use lib.Dec.{T, eqb, eqb→eq, eqb-refl, eqb·zero-suc, eqb·suc-zero, eqb·suc-suc}
+use lib.Pow.{shr-shr, pow-mono}
+use lib.Dec.{eqb, eqb·zero-suc, eqb·suc-zero, eqb·suc-suc}
 use borrow.Author.Tests.{eqb-true, eq-eqb, ne-eqb}
 use Rattle.lists.specs.Lists.{some}
 use Rattle.lists.proofs.Members.{some-append, not-true-false}

@@ -1,21 +1,21 @@
 -- What a reading without fault says of the commands: their labels are below K, and the counts are those of the trees that they make. Assumes nothing.
-use mathlib.Core.Path.{_≡_, refl, sym, ap, ap₂, _∙_, subst}
-use mathlib.Core.Bool.{Bool, true, false, cond, not, _&&_, _||_, true≢false, false≢true}
+use mathlib.Core.Path.{_≡_, refl, sym, ap, _∙_, subst}
+use mathlib.Core.Bool.{Bool, true, false, cond, not, _&&_, _||_}
 use mathlib.Core.List.{List, [], _∷_, map}
-use Prim.Native.Nat.{ℕ, zero, suc, _+_, _-_, _≤_, _<_}
+use Prim.Native.Nat.{ℕ, zero, suc, _+_, _-_, _≤_, _<_, zero-le}
 use native.Mathlib.Omega.{arith}
 use lib.Dec.{eqb, ltb, leb}
 use lib.ListN.{length, getD}
 use borrow.Author.Tests.{ltb-false, leb-false}
 use Rattle.lists.specs.Lists.{All}
-use Rattle.lists.proofs.Members.{or-neither, or-either}
-use Rattle.expression.specs.declared.Kind.{Kind}
+use Rattle.lists.proofs.Members.{or-neither}
 use Rattle.expression.specs.declared.Kind.the-variants.{Head, Positive, Negative}
 use Rattle.expression.specs.declared.Command.{Command}
 use Rattle.expression.specs.declared.Command.the-variants.{Atom, Rule, Union, Relabel, Connect}
 use Rattle.expression.specs.declared.Read.{Read}
 use Rattle.expression.specs.declared.Read.the-variants.{Command as Got, Fault}
 use Rattle.expression.specs.declared.Counts.{Counts}
+use Rattle.expression.specs.Limits.{atomLimit}
 use Rattle.expression.specs.Refusals.{unknown, cut, group, same}
 use Rattle.expression.specs.Commands.{oneOperand, twoOperands, isCommand, operandCount, commandOf, readCommand, readAt}
 use Rattle.expression.specs.Reading.{newAtoms, depthAfter, counted, countFault, Placed, Reading, faulty, whole, noCounts, behind, readFrom, reading}
@@ -85,6 +85,14 @@ depth-act n (Relabel i j) (e ∷ es) f h = h
 depth-act n (Connect k i j) [] f h = h
 depth-act n (Connect k i j) (e ∷ es) f h = h
 
+few-counted : (n : Counts) (c : Command) → countFault n c ≡ 0 → n .atoms ≤ atomLimit → counted n c .atoms ≤ atomLimit
+unfolding countFault counted newAtoms
+few-counted n (Atom g) f h = let k = leb-false atomLimit (n .atoms) (peel _ _ _ f .0) in omega arith
+few-counted n (Rule g) f h = omega arith
+few-counted n Union f h = omega arith
+few-counted n (Relabel i j) f h = omega arith
+few-counted n (Connect k i j) f h = omega arith
+
 -- ---- a whole reading
 
 abbrev pub commandsOf : List Placed → List Command
@@ -95,6 +103,7 @@ pub record Sound (K : ℕ) (n : Counts) (es : List Expr) (cs : List Placed) (z :
   pub suits : All (Suits K) (commandsOf cs)
   pub depth : z .depth ≡ length (actAll trees (n .atoms) (commandsOf cs) es)
   pub atoms : z .atoms ≡ atomsAfter (n .atoms) (commandsOf cs)
+  pub few : z .atoms ≤ atomLimit
 
 abbrev SoundReading : ℕ → Counts → List Expr → Reading → Type 0
 SoundReading K n es (faulty f at) = Unit {0}
@@ -104,20 +113,20 @@ behind-sound : (K : ℕ) (n : Counts) (es : List Expr) (at : ℕ) (c : Command) 
     → SoundReading K (counted n c) (act trees (n .atoms) c es) r → SoundReading K n es (behind (record { place = at; command = c }) r)
 unfolding behind counted actAll atomsAfter
 behind-sound K n es at c (faulty f p) h k = tt
-behind-sound K n es at c (whole cs z) h k = record { suits = (h, k .suits); depth = k .depth; atoms = k .atoms }
+behind-sound K n es at c (whole cs z) h k = record { suits = (h, k .suits); depth = k .depth; atoms = k .atoms; few = k .few }
 
-from-sound : (K k : ℕ) (s : List ℕ) (at : ℕ) (n : Counts) (es : List Expr) → n .depth ≡ length es → SoundReading K n es (readFrom K k s at n)
+from-sound : (K k : ℕ) (s : List ℕ) (at : ℕ) (n : Counts) (es : List Expr) → n .depth ≡ length es → n .atoms ≤ atomLimit → SoundReading K n es (readFrom K k s at n)
 unfolding readFrom actAll atomsAfter
-from-sound K zero s at n es h = record { suits = tt; depth = h; atoms = refl }
-from-sound K (suc k) s at n es h = ends (ltb at (length s)) (λ next c e. from-sound K k s next (counted n c) (act trees (n .atoms) c es) e)
+from-sound K zero s at n es h l = record { suits = tt; depth = h; atoms = refl; few = l }
+from-sound K (suc k) s at n es h l = ends (ltb at (length s)) (λ next c e g. from-sound K k s next (counted n c) (act trees (n .atoms) c es) e g)
   where
     Rest : Type 0
-    Rest = (next : ℕ) (c : Command) → counted n c .depth ≡ length (act trees (n .atoms) c es)
+    Rest = (next : ℕ) (c : Command) → counted n c .depth ≡ length (act trees (n .atoms) c es) → counted n c .atoms ≤ atomLimit
         → SoundReading K (counted n c) (act trees (n .atoms) c es) (readFrom K k s next (counted n c))
 
     counts : (next : ℕ) (c : Command) → Suits K c → Rest → (f : ℕ) → countFault n c ≡ f
         → SoundReading K n es (elim f as (λ x. Reading) [ zero ↦ behind (record { place = at; command = c }) (readFrom K k s next (counted n c)) | suc m ↦ faulty (suc m) at ])
-    counts next c w rest zero e = behind-sound K n es at c (readFrom K k s next (counted n c)) w (rest next c (depth-counted c e))
+    counts next c w rest zero e = behind-sound K n es at c (readFrom K k s next (counted n c)) w (rest next c (depth-counted c e) (few-counted n c e l))
       where
         depth-counted : (c : Command) → countFault n c ≡ 0 → counted n c .depth ≡ length (act trees (n .atoms) c es)
         depth-counted c e = unfold counted in depth-act n c es e h
@@ -135,13 +144,13 @@ from-sound K (suc k) s at n es h = ends (ltb at (length s)) (λ next c e. from-s
         → SoundReading K n es (elim b as (λ x. Reading) [
           | false ↦ whole [] n
           | true ↦ elim (readAt K s at) [
-              | Fault f ↦ faulty f at
-              | Got c next ↦ elim (countFault n c) [ zero ↦ behind (record { place = at; command = c }) (readFrom K k s next (counted n c)) | suc m ↦ faulty (suc m) at ]
-            ]
+            | Fault f ↦ faulty f at
+            | Got c next ↦ elim (countFault n c) [ zero ↦ behind (record { place = at; command = c }) (readFrom K k s next (counted n c)) | suc m ↦ faulty (suc m) at ]
+          ]
         ])
-    ends false rest = record { suits = tt; depth = h; atoms = refl }
+    ends false rest = record { suits = tt; depth = h; atoms = refl; few = l }
     ends true rest = reads rest (readAt K s at) refl
 
 pub reading-sound : (K : ℕ) (s : List ℕ) (cs : List Placed) (z : Counts) → reading K s ≡ whole cs z → Sound K noCounts [] cs z
 unfolding reading noCounts
-reading-sound K s cs z h = subst (SoundReading K noCounts []) h (from-sound K (length s) s 0 noCounts [] refl)
+reading-sound K s cs z h = subst (SoundReading K noCounts []) h (from-sound K (length s) s 0 noCounts [] refl zero-le)

@@ -1,23 +1,21 @@
 -- What tables accept is what the rules say: some interpretation that obeys the assumptions is an answer set, or, plainly, a model. Assumes nothing.
 use mathlib.Core.Path.{_≡_, refl, sym, ap, ap₂, _∙_}
-use mathlib.Core.Bool.{Bool, true, false, not, _&&_, true≢false}
-use mathlib.Core.List.{List, List·Memᴰ}
+use mathlib.Core.Bool.{true, not, _&&_}
 use Prim.Native.Nat.{ℕ}
 use lib.Bits.{bitOr}
 use borrow.Author.Tests.{not-true}
 use Rattle.lists.specs.Lists.{some, every}
-use Rattle.lists.specs.Sorted.{second, compareLists, compareNumbers}
-use Rattle.lists.proofs.Members.{and-both, not-true-false, some-of, some-is, some-none, none-some}
+use Rattle.lists.proofs.Members.{and-both, some-of, some-is, some-none, none-some}
 use Rattle.lists.proofs.Comparisons.{Lawful, numbers-lawful, lists-lawful}
 use Rattle.semantics.specs.Expressions.{Expr, atom, rule, union, relabel, connect, fold}
 use Rattle.semantics.specs.Programs.{numbers, rules}
-use Rattle.semantics.specs.AnswerSets.{Interpretation, Assumptions, Obeys, ProperSubset, Model, AnswerSet, satisfies}
+use Rattle.semantics.specs.AnswerSets.{Interpretation, Assumptions, Obeys, Model, AnswerSet, satisfies}
 use Rattle.semantics.proofs.Interpretations.{Agree, Distinct}
 use Rattle.semantics.proofs.Stacks.{Fits}
-use Rattle.tables.specs.Algebras.{entries, entry, tables, table}
+use Rattle.tables.specs.Algebras.{entries, entry, table}
 use Rattle.tables.specs.Triples.{relabelTriple, connectTriple, allMet}
-use Rattle.tables.specs.Definitions.{Pair, ownTriple, subsets, triples, pairs, accepting, plainAccepts, groundedAccepts}
-use Rattle.tables.proofs.Entries.{Made, entry-agree, table-is, table-of}
+use Rattle.tables.specs.Definitions.{ownTriple, subsets, triples, pairs, accepting, plainAccepts, groundedAccepts}
+use Rattle.tables.proofs.Entries.{entry-agree, table-is, table-of}
 use Rattle.tables.proofs.Subsets.{tripleOf, pair, pair-own, subsets-is, subsets-of}
 use Rattle.tables.proofs.Marks.{holds, allMet-is, reduct-holds}
 

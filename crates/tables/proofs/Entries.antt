@@ -32,7 +32,7 @@ unless-of false h = List·Memᴰ·head refl
 -- ---- tables over any algebra
 
 module _ {X : Type 0} (A : Algebra X) where
-  -- an entry depends on the part's own atoms alone
+  -- an entry depends on the tree's own atoms alone
   pub entry-agree : (e : Expr) {p q : Interpretation} → Agree (numbers e) p q → entry A e p ≡ entry A e q
   unfolding entry numbers entries fold
   entry-agree (atom c g) a = ap (λ b. cond b (A .present c g) (A .absent c g)) (a c (List·Memᴰ·head refl))

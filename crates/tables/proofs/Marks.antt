@@ -6,14 +6,13 @@ use mathlib.Core.List.{List, [], _∷_, _++_, map, map-append}
 use Prim.Native.Nat.{ℕ, _+_, _*_, _^_, _≤_, _<_}
 use native.Mathlib.Nat.{le-trans, le-add-right}
 use native.Mathlib.Omega.{arith}
-use lib.Bits.{bitOr}
 use lib.Dec.{eqb, ltb}
 use lib.Pow.{pow-mono}
 use borrow.Author.Tests.{eqb-true, eq-eqb, ne-eqb, lt-ltb, le-ltb}
 use Rattle.lists.specs.Lists.{some, every, All}
 use Rattle.lists.proofs.Members.{some-append, all-append, all-map}
 use Rattle.labels.specs.Labels.{rename}
-use Rattle.labels.specs.Sets.{has, without, replace}
+use Rattle.labels.specs.Sets.{has, without}
 use Rattle.labels.proofs.Sets.{SetOf, lacking, set-pow, set-or, set-without, set-replace, has-le, has-lt, eqb-sym}
 use Rattle.expression.specs.declared.Kind.{Kind}
 use Rattle.expression.specs.declared.Kind.the-variants.{Head, Positive, Negative}
@@ -24,11 +23,11 @@ use Rattle.semantics.proofs.Stacks.{Fits}
 use Rattle.tables.specs.Triples.{markT, markF, markU, relabelTriple, settles, connectTriple, allMet}
 use Rattle.tables.proofs.Subsets.{tripleOf}
 
--- a rule that is settled where the plan is p, by the smaller plan q: it is none of the reduct, or q satisfies it
+-- a rule that is settled for q in the reduct of p: it is none of the reduct, or q satisfies it
 unfoldable pub holds : Interpretation → Interpretation → Rule → Bool
 holds p q r = some (λ c. not (q c)) (r .positive) || some p (r .negative) || some q (r .head)
 
--- whether atoms extend into a rule settle it
+-- whether atoms put into a rule settle it
 unfoldable pub settled : Kind → List ℕ → Interpretation → Interpretation → Bool
 settled Head cs p q = some q cs
 settled Positive cs p q = some (λ c. not (q c)) cs
@@ -264,7 +263,7 @@ module _ (K : ℕ) where
       low false e = let l = h .0 in omega arith
 
   module _ (k : Kind) (j : ℕ) (cs : List ℕ) (p q : Interpretation) where
-    -- not settled, products rule stays as it was
+    -- not settled, each rule stays as it was
     unsettled : settled k cs p q ≡ false → (rs : List Rule) → ruleMarks p q (map (connectRule k j cs) rs) ≡ ruleMarks p q rs
     unfolding ruleMarks connectRule
     unsettled h [] = refl

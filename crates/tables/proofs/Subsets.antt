@@ -3,15 +3,15 @@
 use mathlib.Core.Path.{_≡_, refl, sym, ap, ap₂, _∙_}
 use mathlib.Core.Logic.{_⊎_, inl, inr, ⊎-elim}
 use mathlib.Core.Bool.{Bool, true, false, cond, false≢true}
-use mathlib.Core.List.{List, [], _∷_, _++_, map, List·Memᴰ, List·Memᴰ·head, List·Memᴰ·not-nil, List·Memᴰ·eq-of-singleton, Memᴰ·cast, Memᴰ·append-left, Memᴰ·append-right, List·Memᴰ·append-cases, Memᴰ·map, Memᴰ·of-map}
-use Prim.Native.Nat.{ℕ, suc, _+_, _*_, _^_, _≤_}
+use mathlib.Core.List.{List, _++_, map, List·Memᴰ, List·Memᴰ·head, List·Memᴰ·not-nil, List·Memᴰ·eq-of-singleton, Memᴰ·cast, Memᴰ·append-left, Memᴰ·append-right, List·Memᴰ·append-cases, Memᴰ·map, Memᴰ·of-map}
+use Prim.Native.Nat.{ℕ, suc, _*_, _^_, _≤_}
 use native.Mathlib.Nat.{le-trans, le-of-eq, mul-le-mul, suc-mul, mul-suc}
 use native.Mathlib.Omega.{arith}
 use lib.Bits.{bitOr}
 use lib.Pow.{pow-add}
 use lib.ListN.{length, length-append, length-map}
 use Rattle.lists.specs.Lists.{products}
-use Rattle.lists.specs.Sorted.{compareNumbers, second, setOf, canon}
+use Rattle.lists.specs.Sorted.{compareNumbers, second, setOf}
 use Rattle.lists.proofs.Members.{products-of, products-is, length-products}
 use Rattle.lists.proofs.Comparisons.{numbers-lawful}
 use Rattle.lists.proofs.Canon.{canon-of, canon-is, length-canon, length-canon-map}

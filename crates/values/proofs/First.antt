@@ -1,8 +1,8 @@
 -- The least value over the entries that pass a test is that of a passing interpretation, and no passing one has less; by the weights 2 ^ (62 - c) the
 -- value tells the interpretation, and the least is the first. Assumes nothing.
 use mathlib.Core.Path.{_≡_, refl, sym, ap, ap₂, _∙_}
-use mathlib.Core.Logic.{_⊎_, inl, inr, ⊎-elim}
-use mathlib.Core.Bool.{Bool, true, false, cond, true≢false, false≢true}
+use mathlib.Core.Logic.{_⊎_, inl, inr}
+use mathlib.Core.Bool.{Bool, true, false, cond, true≢false}
 use mathlib.Core.List.{List, [], _∷_, List·Memᴰ, List·Memᴰ·head, List·Memᴰ·tail, List·Memᴰ·not-nil, List·Memᴰ·cases-cons}
 use Prim.Native.Nat.{ℕ, zero, suc, _+_, _-_, _*_, _^_, _≤_, _<_, min}
 use native.Mathlib.Nat.{min-comm, add-zero, zero-add, add-assoc, pow-suc}
@@ -17,11 +17,11 @@ use Rattle.labels.proofs.Sets.{has-top, has-below}
 use Rattle.expression.specs.Limits.{atomLimit}
 use Rattle.semantics.specs.Expressions.{Expr}
 use Rattle.semantics.specs.Programs.{numbers}
-use Rattle.semantics.specs.AnswerSets.{Interpretation, Assumptions, ofMask, maskOf, allObeying, ofList}
+use Rattle.semantics.specs.AnswerSets.{Interpretation, Assumptions, ofMask, allObeying, ofList}
 use Rattle.semantics.proofs.Interpretations.{Agree, Distinct}
 use Rattle.semantics.proofs.Masks.{mask-agrees}
 use Rattle.tables.specs.Algebras.{Algebra, entry, table}
-use Rattle.values.specs.Values.{Values, valued, valueOf, Total, none, worth, add, multiply, sumBy, sumOver}
+use Rattle.values.specs.Values.{valued, valueOf, Total, none, worth, add, multiply, sumBy, sumOver}
 use Rattle.values.specs.First.{leastBy, firstWeight, firsts, passing, shownBy, NotBefore}
 use Rattle.values.proofs.Semirings.{Semiring}
 use Rattle.values.proofs.Sums.{table-sum}

@@ -1,16 +1,15 @@
 -- The entries of a table with values are the table; the entry of an interpretation has its value; all interpretations' entries, listed. Assumes nothing.
 use mathlib.Core.Path.{_≡_, refl, sym, ap, ap₂, _∙_}
 use mathlib.Core.Bool.{Bool, true, false, cond, _||_, or-false}
-use mathlib.Core.List.{List, [], _∷_, _++_, map, map-append, append-nil, List·Memᴰ, List·Memᴰ·head}
+use mathlib.Core.List.{List, [], _∷_, _++_, map, map-append, append-nil, List·Memᴰ}
 use Prim.Native.Nat.{ℕ}
 use lib.Dec.{eqb}
 use borrow.Author.Tests.{eq-eqb}
 use Rattle.lists.specs.declared.Order.{Order}
 use Rattle.lists.specs.declared.Order.the-variants.{Less, Same, More}
 use Rattle.lists.specs.Lists.{some, products}
-use Rattle.lists.specs.Sorted.{byOrder, insert, insertAll, canon, second}
+use Rattle.lists.specs.Sorted.{byOrder, insert, insertAll, canon}
 use Rattle.lists.proofs.Members.{some-append, not-listed, products-map, products-append}
-use Rattle.lists.proofs.Comparisons.{Lawful}
 use Rattle.semantics.specs.Expressions.{Expr, atom, rule, union, relabel, connect, Operations, fold}
 use Rattle.semantics.specs.Programs.{numbers}
 use Rattle.semantics.specs.AnswerSets.{Interpretation, Assumptions, allObeying, ofList}

@@ -17,7 +17,7 @@ use Rattle.semantics.specs.AnswerSets.{Assumptions, allObeying, ofList}
 use Rattle.semantics.proofs.Interpretations.{Distinct}
 use Rattle.tables.specs.Algebras.{Algebra, entry, leaf, tables, table}
 use Rattle.tables.proofs.Entries.{table-rising}
-use Rattle.values.specs.Values.{Values, Valued, valued, valueOf, Total, none, worth, add, multiply, sumBy, sumOver}
+use Rattle.values.specs.Values.{Values, Valued, valued, Total, none, worth, add, multiply, sumBy, sumOver}
 use Rattle.values.proofs.Semirings.{Semiring, add-assoc, add-turn, multiply-together, multiply-either, multiply-add, multiply-unit, none-add, add-none, multiply-none}
 use Rattle.values.proofs.Items.{items, items-table, entry-valued, lists, lists-entries}
 

@@ -1,0 +1,4 @@
+pub mod Walks
+pub mod Demands
+pub mod Shown
+pub mod Starred
