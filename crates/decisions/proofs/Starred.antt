@@ -14,7 +14,7 @@ use Rattle.expression.specs.declared.Kind.the-variants.{Head}
 use Rattle.expression.specs.Limits.{workspaceNeed}
 use Rattle.expression.specs.Commands.{oneOperand, twoOperands, isCommand, operandCount, commandOf, readCommand, readAt}
 use Rattle.expression.specs.Reading.{noCounts, newAtoms, newRules, depthAfter, counted, countFault, behind, readFrom, reading}
-use Rattle.expression.specs.Checks.{Request, firstOf, isFaulty, faultNumber, faultPlace, countsOf, isLimit, clashes, isAbsent, checks, check}
+use Rattle.expression.specs.Checks.{Request, firstOf, isFaulty, faultNumber, faultPlace, countsOf, isLimit, overlongTest, limitsTest, crampedTest, clashTest, faultTest, unjoinedTest, absentTest, checks, check}
 use Rattle.semantics.specs.Expressions.{Expr, atom, rule, union, connect, fold, uniteNewest, changeNewest, act, actAll, trees}
 use Rattle.semantics.specs.Programs.{numbers}
 use Rattle.semantics.specs.AnswerSets.{byMasks}
@@ -101,7 +101,7 @@ right r = sameVerdict (grounded labelCount (r .asked)) (r .says) && shownRight (
 
 starred : every right rows ≡ true
 unfolding every right rows row listed circle twins sameVerdict isSame shownRight shownMasks narrowed keep run numbers grounded plain decide conclude answer walk pairsFault plainFault
-    commandsIn assumed byMasks treeOf expressionOf check checks isAbsent clashes isLimit countsOf faultPlace faultNumber isFaulty firstOf reading readFrom behind countFault counted depthAfter newRules newAtoms noCounts readAt readCommand commandOf operandCount isCommand
+    commandsIn assumed byMasks treeOf expressionOf check checks overlongTest limitsTest crampedTest clashTest faultTest unjoinedTest absentTest isLimit countsOf faultPlace faultNumber isFaulty firstOf reading readFrom behind countFault counted depthAfter newRules newAtoms noCounts readAt readCommand commandOf operandCount isCommand
     twoOperands oneOperand act actAll trees uniteNewest changeNewest fold groundedAccepts plainAccepts accepting allMet pairs triples mapPair unitePairs connectTriple settles relabelTriple markT markF
     markU table tables leaf some products setOf canon insertAll insert compareLists compareNumbers has without replace
 starred = refl

@@ -9,11 +9,12 @@ use lib.Dec.{eqb}
 use lib.ListN.{length}
 use borrow.Author.Tests.{eqb-true, not-false}
 use Rattle.lists.specs.Lists.{All, run}
+use Rattle.expression.specs.declared.Counts.{Counts}
 use Rattle.expression.specs.declared.Checked.{Checked}
 use Rattle.expression.specs.declared.Checked.the-variants.{Passed, Refused}
 use Rattle.expression.specs.Limits.{atomLimit}
 use Rattle.expression.specs.Reading.{newAtoms, Placed, Reading, faulty, whole, noCounts, reading}
-use Rattle.expression.specs.Checks.{Request, Test, firstOf, isFaulty, countsOf, isAbsent, checks, check}
+use Rattle.expression.specs.Checks.{Request, Test, firstOf, isFaulty, countsOf, absentTest, faultTest, unjoinedTest, checks, check}
 use Rattle.semantics.specs.Expressions.{Expr, Operations, act, actAll, trees}
 use Rattle.semantics.specs.Programs.{numbers}
 use Rattle.semantics.specs.AnswerSets.{Assumptions}
@@ -50,11 +51,11 @@ walk-all {X} B f n (c ∷ cs) ts us h = step (f (newest vs)) (λ k. walk-all B f
 -- ---- checks that passed
 
 -- a test that comes in a list that passed did not refuse
-first-passes : (t : Test) (ts : List Test) → firstOf (t ∷ ts) ≡ Passed → (t .refuses ≡ false) × (firstOf ts ≡ Passed)
+first-passes : (z y : Counts) (t : Test) (ts : List Test) → firstOf z (t ∷ ts) ≡ Passed y → (t .refuses ≡ false) × (firstOf z ts ≡ Passed y)
 unfolding firstOf
-first-passes t ts h = step (t .refuses) refl h
+first-passes z y t ts h = step (t .refuses) refl h
   where
-    step : (b : Bool) → t .refuses ≡ b → cond b (Refused (t .number) (t .place)) (firstOf ts) ≡ Passed → (t .refuses ≡ false) × (firstOf ts ≡ Passed)
+    step : (b : Bool) → t .refuses ≡ b → cond b (Refused (t .number) (t .place)) (firstOf z ts) ≡ Passed y → (t .refuses ≡ false) × (firstOf z ts ≡ Passed y)
     step true e k = let z : _≡_ {A = ℕ} 0 1 = cc in absurd (omega arith)
     step false e k = (e, k)
 
@@ -62,18 +63,18 @@ first-passes t ts h = step (t .refuses) refl h
 pub record Readable (a : Request) (r : Reading) : Type 0 where
   pub sound : isFaulty r ≡ false
   pub one : countsOf r .depth ≡ 1
-  pub known : isAbsent (countsOf r .atoms) (a .assumedTrue) (a .assumedFalse) ≡ false
+  pub known : absentTest (a .bytes) (countsOf r .atoms) (a .assumedTrue) (a .assumedFalse) .refuses ≡ false
 
-pub checks-passed : (a : Request) (r : Reading) → firstOf (checks a r) ≡ Passed → Readable a r
-unfolding checks
-checks-passed a r h =
-    let k1 = first-passes _ _ h in
-    let k2 = first-passes _ _ (k1 .1) in
-    let k3 = first-passes _ _ (k2 .1) in
-    let k4 = first-passes _ _ (k3 .1) in
-    let k5 = first-passes _ _ (k4 .1) in
-    let k6 = first-passes _ _ (k5 .1) in
-    let k7 = first-passes _ _ (k6 .1) in
+pub checks-passed : (a : Request) (r : Reading) (z y : Counts) → firstOf z (checks a r) ≡ Passed y → Readable a r
+unfolding checks faultTest unjoinedTest
+checks-passed a r z y h =
+    let k1 = first-passes z y _ _ h in
+    let k2 = first-passes z y _ _ (k1 .1) in
+    let k3 = first-passes z y _ _ (k2 .1) in
+    let k4 = first-passes z y _ _ (k3 .1) in
+    let k5 = first-passes z y _ _ (k4 .1) in
+    let k6 = first-passes z y _ _ (k5 .1) in
+    let k7 = first-passes z y _ _ (k6 .1) in
     record { sound = k5 .0; one = eqb-true (countsOf r .depth) 1 (not-false (eqb (countsOf r .depth) 1) (k6 .0)); known = k7 .0 }
 
 -- ---- the bytes are one tree
@@ -130,10 +131,10 @@ decided {X} A f y K a h = step (check K a) refl h
           ∙ tables-after A (assumed a) (commandsIn (reading K (a .bytes))) ∙ ap (map (table A (assumed a))) (readable-tree K a (reading K (a .bytes)) refl r .only)));
     }
 
-    step : (c : Checked) → check K a ≡ c → Settled (elim c as (λ x. Verdict) [ Passed ↦ conclude y W | Refused n at ↦ refused n at ])
-        → Decided A y K a (elim c as (λ x. Verdict) [ Passed ↦ conclude y W | Refused n at ↦ refused n at ])
-    step Passed e k = ends (passed e) W refl k
+    step : (c : Checked) → check K a ≡ c → Settled (elim c as (λ x. Verdict) [ Passed z ↦ conclude y W | Refused n at ↦ refused n at ])
+        → Decided A y K a (elim c as (λ x. Verdict) [ Passed z ↦ conclude y W | Refused n at ↦ refused n at ])
+    step (Passed z) e k = ends (passed z e) W refl k
       where
-        passed : check K a ≡ Passed → Readable a (reading K (a .bytes))
-        passed e = checks-passed a (reading K (a .bytes)) (unfold check in e)
+        passed : (z : Counts) → check K a ≡ Passed z → Readable a (reading K (a .bytes))
+        passed z e = checks-passed a (reading K (a .bytes)) (countsOf (reading K (a .bytes))) z (unfold check in e)
     step (Refused n at) e k = absurd k

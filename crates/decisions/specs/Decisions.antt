@@ -68,7 +68,7 @@ module _ {X : Type 0} where
   unfoldable pub decide : Algebra X → (List X → ℕ) → (List X → Bool) → ℕ → Request → Verdict
   decide A f y K a =
       elim (check K a) [
-        | Passed ↦ conclude y (walk (tables A (assumed a)) f 0 (commandsIn (reading K (a .bytes))) [])
+        | Passed z ↦ conclude y (walk (tables A (assumed a)) f 0 (commandsIn (reading K (a .bytes))) [])
         | Refused n at ↦ refused n at
       ]
 

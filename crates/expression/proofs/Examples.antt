@@ -11,17 +11,21 @@ use Rattle.expression.specs.declared.Checked.the-variants.{Passed, Refus
 use Rattle.expression.specs.Limits.{workspaceNeed}
 use Rattle.expression.specs.Commands.{oneOperand, twoOperands, isCommand, operandCount, commandOf, readCommand, readAt}
 use Rattle.expression.specs.Reading.{noCounts, newAtoms, newRules, depthAfter, counted, countFault, behind, readFrom, reading}
-use Rattle.expression.specs.Checks.{Request, firstOf, isFaulty, faultNumber, faultPlace, countsOf, isLimit, clashes, isAbsent, checks, check}
+use Rattle.expression.specs.Checks.{Request, firstOf, isFaulty, faultNumber, faultPlace, countsOf, isLimit, overlongTest, limitsTest, crampedTest, clashTest, faultTest, unjoinedTest, absentTest, checks, check}
 
 same : Checked → Checked → Bool
-same Passed Passed = true
-same Passed (Refused n at) = false
-same (Refused m b) Passed = false
+same (Passed y) (Passed z) = eqb (y .atoms) (z .atoms) && eqb (y .rules) (z .rules) && eqb (y .depth) (z .depth) && eqb (y .deepest) (z .deepest)
+same (Passed y) (Refused n at) = false
+same (Refused m b) (Passed z) = false
 same (Refused m b) (Refused n at) = eqb m n && eqb b at
 
 record Row : Type 0 where
   asked : Request
   says : Checked
+
+-- how many atoms and rules, and the most operands at once
+passed : ℕ → ℕ → ℕ → Checked
+passed n m d = Passed (record { atoms = n; rules = m; depth = 1; deepest = d })
 
 -- bytes, limits and assumptions, with just the room that is needed
 row : List ℕ → ℕ → ℕ → ℕ → ℕ → Checked → Row
@@ -46,13 +50,13 @@ listed = 0x11 ∷ 0 ∷ 0x12 ∷ 1 ∷ 0x21 ∷ 0x41 ∷ 0 ∷ 1 ∷ []
 
 rows : List Row
 rows =
-    row listed 32 32 0 0 Passed
+    row listed 32 32 0 0 (passed 1 1 2)
     -- an assumption on an absent atom, bit 63 included
     ∷ row listed 32 32 2 0 (Refused 13 8)
     ∷ row listed 32 32 0 (2 ^ 63) (Refused 13 8)
     ∷ row [] 32 32 0 0 (Refused 12 0)
     ∷ row (0x21 ∷ []) 32 32 0 0 (Refused 11 0)
-    ∷ row (0x11 ∷ 7 ∷ []) 32 32 0 0 Passed
+    ∷ row (0x11 ∷ 7 ∷ []) 32 32 0 0 (passed 1 0 1)
     ∷ row (0x11 ∷ 8 ∷ []) 32 32 0 0 (Refused 7 0)
     ∷ row (0x41 ∷ 0 ∷ []) 32 32 0 0 (Refused 6 0)
     ∷ row (0x41 ∷ 0 ∷ 0 ∷ []) 32 32 0 0 (Refused 8 0)
@@ -73,13 +77,13 @@ rows =
     ∷ row (times 9 (0x11 ∷ 0 ∷ [])) 32 32 0 0 (Refused 10 16)
     -- a 64th atom that would also be a ninth operand; 63 atoms are read
     ∷ row (times 8 (0x11 ∷ 0 ∷ []) ++ times 55 (0x21 ∷ 0x11 ∷ 0 ∷ []) ++ (0x11 ∷ 0 ∷ [])) 32 32 0 0 (Refused 9 181)
-    ∷ row (0x11 ∷ 0 ∷ times 62 (0x11 ∷ 0 ∷ 0x21 ∷ [])) 32 32 (2 ^ 62) 0 Passed
+    ∷ row (0x11 ∷ 0 ∷ times 62 (0x11 ∷ 0 ∷ 0x21 ∷ [])) 32 32 (2 ^ 62) 0 (passed 63 0 2)
     ∷ []
 
 right : Row → Bool
 right r = same (check labelCount (r .asked)) (r .says)
 
 examples : every right rows ≡ true
-unfolding every right rows row cramp times listed same check checks isAbsent clashes isLimit countsOf faultPlace faultNumber isFaulty firstOf reading readFrom behind
+unfolding every right rows row passed cramp times listed same check checks overlongTest limitsTest crampedTest clashTest faultTest unjoinedTest absentTest isLimit countsOf faultPlace faultNumber isFaulty firstOf reading readFrom behind
     countFault counted depthAfter newRules newAtoms noCounts readAt readCommand commandOf operandCount isCommand twoOperands oneOperand
 examples = refl

@@ -27,10 +27,10 @@ pub record Test : Type 0 where
   pub number : ℕ
   pub place : ℕ
 
--- the first that refuses
-unfoldable pub firstOf : List Test → Checked
-firstOf [] = Passed
-firstOf (t ∷ ts) = cond (t .refuses) (Refused (t .number) (t .place)) (firstOf ts)
+-- the first that refuses; where none does, the counts z
+unfoldable pub firstOf : Counts → List Test → Checked
+firstOf z [] = Passed z
+firstOf z (t ∷ ts) = cond (t .refuses) (Refused (t .number) (t .place)) (firstOf z ts)
 
 unfoldable pub isFaulty : Reading → Bool
 isFaulty (faulty n at) = true
@@ -52,24 +52,48 @@ countsOf (whole cs z) = z
 unfoldable pub isLimit : ℕ → Bool
 isLimit n = ltb 0 n && ltb n (tableLimit + 1)
 
+-- ---- the tests
+
+unfoldable pub overlongTest : List ℕ → Test
+overlongTest s = record { refuses = ltb byteLimit (length s); number = overlong; place = 0 }
+
+unfoldable pub limitsTest : ℕ → ℕ → Test
+limitsTest P G = record { refuses = not (isLimit P && isLimit G); number = limits; place = 0 }
+
+unfoldable pub crampedTest : ℕ → ℕ → ℕ → Test
+crampedTest P G room = record { refuses = ltb room (workspaceNeed P G); number = cramped; place = 0 }
+
 -- some atom is assumed true and false
-unfoldable pub clashes : ℕ → ℕ → Bool
-clashes i o = not (eqb (bitAnd i o) 0)
+unfoldable pub clashTest : ℕ → ℕ → Test
+clashTest i o = record { refuses = not (eqb (bitAnd i o) 0); number = clash; place = 0 }
+
+-- 5 to 11
+unfoldable pub faultTest : Reading → Test
+faultTest r = record { refuses = isFaulty r; number = faultNumber r; place = faultPlace r }
+
+unfoldable pub unjoinedTest : List ℕ → Reading → Test
+unjoinedTest s r = record { refuses = not (eqb (countsOf r .depth) 1); number = unjoined; place = length s }
 
 -- an assumption on an atom that is none of the n
-unfoldable pub isAbsent : ℕ → ℕ → ℕ → Bool
-isAbsent n i o = not (ltb i (2 ^ n) && ltb o (2 ^ n))
+unfoldable pub absentTest : List ℕ → ℕ → ℕ → ℕ → Test
+absentTest s n i o = record { refuses = not (ltb i (2 ^ n) && ltb o (2 ^ n)); number = absent; place = length s }
+
+-- ---- in their order
 
 unfoldable pub checks : Request → Reading → List Test
 checks a r =
-    record { refuses = ltb byteLimit (length (a .bytes)); number = overlong; place = 0 }
-    ∷ record { refuses = not (isLimit (a .pairLimit) && isLimit (a .subsetLimit)); number = limits; place = 0 }
-    ∷ record { refuses = ltb (a .room) (workspaceNeed (a .pairLimit) (a .subsetLimit)); number = cramped; place = 0 }
-    ∷ record { refuses = clashes (a .assumedTrue) (a .assumedFalse); number = clash; place = 0 }
-    ∷ record { refuses = isFaulty r; number = faultNumber r; place = faultPlace r }
-    ∷ record { refuses = not (eqb (countsOf r .depth) 1); number = unjoined; place = length (a .bytes) }
-    ∷ record { refuses = isAbsent (countsOf r .atoms) (a .assumedTrue) (a .assumedFalse); number = absent; place = length (a .bytes) }
+    overlongTest (a .bytes)
+    ∷ limitsTest (a .pairLimit) (a .subsetLimit)
+    ∷ crampedTest (a .pairLimit) (a .subsetLimit) (a .room)
+    ∷ clashTest (a .assumedTrue) (a .assumedFalse)
+    ∷ faultTest r
+    ∷ unjoinedTest (a .bytes) r
+    ∷ absentTest (a .bytes) (countsOf r .atoms) (a .assumedTrue) (a .assumedFalse)
     ∷ []
 
 unfoldable pub check : ℕ → Request → Checked
-check K a = firstOf (checks a (reading K (a .bytes)))
+check K a = let r = reading K (a .bytes) in firstOf (countsOf r) (checks a r)
+
+-- those of the bytes alone
+unfoldable pub checkBytes : ℕ → List ℕ → Checked
+checkBytes K s = let r = reading K s in firstOf (countsOf r) (faultTest r ∷ unjoinedTest s r ∷ [])

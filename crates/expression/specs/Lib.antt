@@ -3,3 +3,5 @@ pub mod Refusals
 pub mod Commands
 pub mod Reading
 pub mod Checks
+pub mod Places
+pub mod Outcomes

@@ -29,8 +29,21 @@ pub struct Counts {
     pub deepest: u64,
 }
 
-// Whether all tests passed, or the number and the place of the first refusal.
+// All tests passed, with the counts of the whole expression; or the number and the place of the first refusal.
 pub enum Checked {
-    Passed,
+    Passed(Counts),
+    Refused(u64, usize),
+}
+
+// An offset that a walk over the commands comes to, with the counts before it; or one that it passes by.
+pub enum Located {
+    Before(Counts),
+    Nowhere,
+}
+
+// A decision: yes with a plan as a mask, no, or a refusal with its number and place.
+pub enum Outcome {
+    Yes(u64),
+    No,
     Refused(u64, usize),
 }
