@@ -1,7 +1,7 @@
 -- One command from bytes (01, "The sheet"), over K labels. Assumes nothing.
 use mathlib.Core.Bool.{Bool, cond, not, _&&_, _||_}
 use mathlib.Core.List.{List}
-use Prim.Native.Nat.{ℕ, _+_, _-_}
+use Prim.Native.Nat.{ℕ, _+_, _-_, _<_}
 use lib.Dec.{eqb, ltb, leb}
 use lib.ListN.{length, getD}
 use Rattle.expression.specs.declared.Kind.the-variants.{Head, Positive, Negative}
@@ -47,3 +47,11 @@ readCommand K at n b x y =
 -- the command at an offset; past the end there is none
 unfoldable pub readAt : ℕ → List ℕ → ℕ → Read
 readAt K s at = readCommand K at (length s - at) (getD s at 0) (getD s (at + 1) 0) (getD s (at + 2) 0)
+
+-- the labels of a command are below K
+unfoldable pub Suits : ℕ → Command → Type 0
+Suits K (Atom g) = g < K
+Suits K (Rule g) = g < K
+Suits K Union = Unit {0}
+Suits K (Relabel i j) = (i < K) × (j < K)
+Suits K (Connect k i j) = (i < K) × (j < K)

@@ -2,3 +2,4 @@ pub mod Members
 pub mod Comparisons
 pub mod Canon
 pub mod Runs
+pub mod Ranks

@@ -17,10 +17,10 @@ use Rattle.expression.specs.declared.Read.the-variants.{Command as Got, Fault}
 use Rattle.expression.specs.declared.Counts.{Counts}
 use Rattle.expression.specs.Limits.{atomLimit}
 use Rattle.expression.specs.Refusals.{unknown, cut, group, same}
-use Rattle.expression.specs.Commands.{oneOperand, twoOperands, isCommand, operandCount, commandOf, readCommand, readAt}
+use Rattle.expression.specs.Commands.{oneOperand, twoOperands, isCommand, operandCount, commandOf, readCommand, readAt, Suits}
 use Rattle.expression.specs.Reading.{newAtoms, depthAfter, counted, countFault, Placed, Reading, faulty, whole, noCounts, behind, readFrom, reading}
 use Rattle.semantics.specs.Expressions.{Expr, act, actAll, trees, uniteNewest, changeNewest}
-use Rattle.semantics.proofs.Stacks.{Suits, atomsAfter}
+use Rattle.semantics.proofs.Stacks.{atomsAfter}
 
 -- ---- a command that is read has labels below K
 

@@ -9,6 +9,7 @@ use Rattle.lists.specs.Lists.{All, run}
 use Rattle.lists.proofs.Runs.{run-append, run-bounds}
 use Rattle.expression.specs.declared.Command.{Command}
 use Rattle.expression.specs.declared.Command.the-variants.{Atom, Rule, Union, Relabel, Connect}
+use Rattle.expression.specs.Commands.{Suits}
 use Rattle.expression.specs.Reading.{newAtoms}
 use Rattle.semantics.specs.Expressions.{Expr, atom, rule, union, relabel, connect, Operations, fold, uniteNewest, changeNewest, act, actAll, trees}
 use Rattle.semantics.specs.Programs.{numbers}
@@ -48,14 +49,6 @@ Fits K (connect k i j e) = (i < K) × (j < K) × Fits K e
 unfoldable pub Chain : List Expr → ℕ → Type 0
 Chain [] n = n ≡ 0
 Chain (e ∷ es) n = (lo : ℕ) × (len : ℕ) × (numbers e ≡ run lo len) × (lo + len ≡ n) × Distinct e × Chain es lo
-
--- the labels of a command are below K
-unfoldable pub Suits : ℕ → Command → Type 0
-Suits K (Atom g) = g < K
-Suits K (Rule g) = g < K
-Suits K Union = Unit {0}
-Suits K (Relabel i j) = (i < K) × (j < K)
-Suits K (Connect k i j) = (i < K) × (j < K)
 
 fits-act : (K n : ℕ) (d : Command) (es : List Expr) → Suits K d → All (Fits K) es → All (Fits K) (act trees n d es)
 unfolding act trees uniteNewest changeNewest Suits Fits

@@ -1,0 +1,1 @@
+// Candidate rows: what a command makes of one row or of two, in a lent row of words.
