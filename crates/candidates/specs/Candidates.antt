@@ -13,7 +13,7 @@ unfoldable pub pairOf : List ℕ → Pair
 pairOf row = getD row 0 0 ∷ take (getD row 1 0) (drop 2 row)
 
 -- its subsets are within the row
-unfoldable pub Readable : List ℕ → Type 0
+abbrev pub Readable : List ℕ → Type 0
 Readable row = 2 + getD row 1 0 ≤ length row
 
 -- a row of w words is made to hold the pair x, and r says how many subsets; or x has too many, and r says so

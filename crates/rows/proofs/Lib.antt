@@ -1,0 +1,5 @@
+pub mod Mix
+pub mod Words
+pub mod Parts
+pub mod Tables
+pub mod Indexing
