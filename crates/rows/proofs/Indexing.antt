@@ -5,8 +5,8 @@ use Prim.Native.Nat.{ℕ, zero, suc, _+_, _-_, _*_, _≤_, _<_, suc-le-suc, zero
 use native.Mathlib.Nat.{le-of-suc-le-suc, not-suc-le-zero, le-trans}
 use native.Mathlib.Numerals.{add-one}
 use native.Mathlib.Omega.{arith}
-use lib.ListN.{length, take, drop, getD, length-append, length-take, length-drop, length-map, take-append-drop}
-use lib.Seq.{length-take-le, take-at, drop-at, take-take, take-add, getD-take}
+use lib.ListN.{length, take, drop, getD, length-append, length-take, length-drop, length-map, drop-of-length-le}
+use lib.Seq.{take-length, length-take-le, take-at, drop-at, take-take, take-add, getD-take}
 use borrow.Rule.Slice.PartMut.{putMid, midOf, post-is}
 use Rattle.lists.specs.Lists.{All}
 use Rattle.lists.specs.Sorted.{compareLists, second, rank, insert, Rising}
@@ -20,7 +20,7 @@ use Rattle.rows.specs.Parts.{part, put, zeros}
 use Rattle.rows.specs.Rows.{rowOf, Fit, tableOf, slot, sortedOf, Indexed}
 use Rattle.rows.specs.Inserted.{There}
 use Rattle.rows.proofs.Parts.{part-put, part-long}
-use Rattle.rows.proofs.Tables.{row-within, length-row, pair-row, row-readable, length-table, slot-at, slot-free, table-more}
+use Rattle.rows.proofs.Tables.{row-within, length-row, pair-row, row-readable, length-table, slot-at, table-put}
 
 -- ---- maps over lists
 
@@ -156,7 +156,10 @@ module _ {w p m : ℕ} {area index : List ℕ} (h : Indexed w p m area index) wh
     index-taken = take-at named (drop (m + 1) index) (m + 1) named-long
 
     words' : area' ≡ tableOf w p (h .arrived ++ x ∷ [])
-    words' = ap₂ (λ (i : ℕ) (a : List ℕ). put (i * w) w a (rowOf w x)) (sym (h .count)) (h .words) ∙ table-more w p (h .arrived) x (h .fit) (omega (arith, h .count))
+    words' =
+        ap₂ (λ (i : ℕ) (a : List ℕ). put (i * w) w a (rowOf w x)) (sym (h .count)) (h .words)
+        ∙ table-put w p (h .arrived) x (length (h .arrived)) (h .fit) (omega arith) (omega (arith, h .count))
+        ∙ ap₂ (λ (a : List Pair) (b : List Pair). tableOf w p (a ++ x ∷ b)) (take-length (h .arrived)) (drop-of-length-le (h .arrived) {i = suc (length (h .arrived))} (omega arith))
 
     fits' : All (Fit w) (h .arrived ++ x ∷ [])
     fits' = all-append (Fit w) (h .arrived) (x ∷ []) (h .fit) (fx, tt)

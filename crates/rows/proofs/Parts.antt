@@ -4,9 +4,9 @@ use mathlib.Core.List.{List, [], _∷_, _++_, append-assoc}
 use Prim.Native.Nat.{ℕ, zero, suc, _+_, _-_, _*_, _≤_, _<_}
 use native.Mathlib.Omega.{arith}
 use native.Mathlib.Nat.{zero-add, suc-add}
-use lib.ListN.{set, getD, length, take, drop, length-append, length-take, length-drop, take-append-drop}
+use lib.ListN.{length-replicate, replicate-append-replicate, set, getD, length, take, drop, length-append, length-take, length-drop, take-append-drop}
 use lib.Seq.{set-append-left, getD-append-add, getD-drop, getD-take, take-at, drop-at, length-take-le, take-append-le, drop-append-le, take-take, take-add, drop-drop}
-use Rattle.rows.specs.Parts.{part, put}
+use Rattle.rows.specs.Parts.{part, put, zeros}
 
 pub part-long : (a k : ℕ) (xs : List ℕ) → a + k ≤ length xs → length (part a k xs) ≡ k
 part-long a k xs l = length-take-le k (drop a xs) (simp length-drop (omega arith))
@@ -94,3 +94,18 @@ get-high a k j xs ys h l e =
 
 pub get-part : (a k i : ℕ) (xs : List ℕ) → i < k → getD (part a k xs) i 0 ≡ getD xs (a + i) 0
 get-part a k i xs l = getD-take k (drop a xs) i 0 l ∙ getD-drop a xs i 0
+
+-- ---- zeros
+
+pub zeros-long : (n : ℕ) → length (zeros n) ≡ n
+zeros-long n = length-replicate n 0
+
+pub drop-zeros : (m n : ℕ) → m ≤ n → drop m (zeros n) ≡ zeros (n - m)
+drop-zeros m n l =
+    let e : n ≡ m + (n - m) = omega arith in
+    ap (λ (j : ℕ). drop m (zeros j)) e
+    ∙ ap (λ (t : List ℕ). drop m t) (sym (replicate-append-replicate m (n - m) 0))
+    ∙ drop-at (zeros m) (zeros (n - m)) m (zeros-long m)
+
+pub zeros-append : (m n : ℕ) → zeros m ++ zeros n ≡ zeros (m + n)
+zeros-append m n = replicate-append-replicate m n 0

@@ -22,6 +22,22 @@ tableOf w p [] = zeros (p * w)
 tableOf w zero (x ∷ xs) = []
 tableOf w (suc p) (x ∷ xs) = rowOf w x ++ tableOf w p xs
 
+-- the pairs of the first n rows
+unfoldable pub rowsIn : ℕ → ℕ → List ℕ → List Pair
+rowsIn w zero area = []
+rowsIn w (suc n) area = pairOf (take w area) ∷ rowsIn w n (drop w area)
+
+-- a row that holds a pair, zeros behind it; a row of zeros is one too
+pub record IsRow (w : ℕ) (row : List ℕ) : Type 0 where
+  pub words : row ≡ rowOf w (pairOf row)
+  pub fit : Fit w (pairOf row)
+
+-- an area of p rows whose first n hold pairs, zeros behind them
+pub record Rows (w p n : ℕ) (area : List ℕ) : Type 0 where
+  pub words : area ≡ tableOf w p (rowsIn w n area)
+  pub room : n ≤ p
+  pub fit : All (Fit w) (rowsIn w n area)
+
 -- the words of row i
 abbrev pub slot : ℕ → ℕ → List ℕ → List ℕ
 slot w i area = part (i * w) w area
