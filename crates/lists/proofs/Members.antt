@@ -4,10 +4,10 @@ use mathlib.Core.Logic.{_⊎_, inl, inr, ⊎-elim}
 use mathlib.Core.Bool.{Bool, true, false, cond, _&&_, _||_, true≢false, false≢true, or-assoc}
 use mathlib.Core.List.{List, [], _∷_, _++_, map, List·Memᴰ, List·Memᴰ·head, List·Memᴰ·tail, List·Memᴰ·not-nil, List·Memᴰ·cases-cons, Memᴰ·cast, Memᴰ·append-left, Memᴰ·append-right, List·Memᴰ·append-cases, Memᴰ·map, Memᴰ·of-map}
 use mathlib.Core.List.{append-assoc, map-append}
-use Prim.Native.Nat.{ℕ, _+_, _*_}
-use native.Mathlib.Nat.{zero-mul, suc-mul, add-comm}
+use Prim.Native.Nat.{ℕ, zero, suc, _+_, _*_, _<_}
+use native.Mathlib.Nat.{zero-mul, suc-mul, add-comm, not-suc-le-zero, le-of-suc-le-suc}
 use lib.Dec.{eqb}
-use lib.ListN.{length, length-append, length-map}
+use lib.ListN.{length, take, getD, length-append, length-map}
 use borrow.Author.Tests.{eq-eqb, ne-eqb, eqb-true}
 use Rattle.lists.specs.Lists.{some, keep, All, products}
 
@@ -114,6 +114,17 @@ module _ {A : Type 0} where
   pub all-of : (P : A → Type 0) (xs : List A) → ((x : A) → List·Memᴰ x xs → P x) → All P xs
   all-of P [] h = tt
   all-of P (x ∷ xs) h = (h x (List·Memᴰ·head refl), all-of P xs (λ y m. h y (List·Memᴰ·tail m)))
+
+  -- the element at a place
+  pub all-get : (P : A → Type 0) (d : A) (xs : List A) (i : ℕ) → All P xs → i < length xs → P (getD xs i d)
+  all-get P d [] i a l = absurd (not-suc-le-zero l)
+  all-get P d (x ∷ xs) zero a l = a .0
+  all-get P d (x ∷ xs) (suc i) a l = all-get P d xs i (a .1) (le-of-suc-le-suc l)
+
+  pub all-take : (P : A → Type 0) (k : ℕ) (xs : List A) → All P xs → All P (take k xs)
+  all-take P zero xs a = tt
+  all-take P (suc k) [] a = tt
+  all-take P (suc k) (x ∷ xs) a = (a .0, all-take P k xs (a .1))
 
   pub all-append : (P : A → Type 0) (xs ys : List A) → All P xs → All P ys → All P (xs ++ ys)
   all-append P [] ys h k = k

@@ -10,7 +10,7 @@ use lib.Seq.{take-length, length-take-le, take-at, drop-at, take-take, take-add,
 use borrow.Rule.Slice.PartMut.{putMid, midOf, post-is}
 use Rattle.lists.specs.Lists.{All}
 use Rattle.lists.specs.Sorted.{compareLists, second, rank, insert, Rising}
-use Rattle.lists.proofs.Members.{all-at, all-append}
+use Rattle.lists.proofs.Members.{all-append, all-get, all-take}
 use Rattle.lists.proofs.Comparisons.{lists-lawful}
 use Rattle.lists.proofs.Canon.{rising-insert}
 use Rattle.lists.proofs.Ranks.{rank-le, insert-absent}
@@ -20,7 +20,8 @@ use Rattle.rows.specs.Parts.{part, put, zeros}
 use Rattle.rows.specs.Rows.{rowOf, Fit, tableOf, slot, sortedOf, Indexed}
 use Rattle.rows.specs.Inserted.{There}
 use Rattle.rows.proofs.Parts.{part-put, part-long}
-use Rattle.rows.proofs.Tables.{row-within, length-row, pair-row, row-readable, length-table, slot-at, table-put}
+use Rattle.rows.proofs.Single.{length-row, pair-row, row-readable}
+use Rattle.rows.proofs.Tables.{row-within, length-table, slot-at, table-put}
 
 -- ---- maps over lists
 
@@ -43,11 +44,6 @@ getD-map f d e [] i l = absurd (not-suc-le-zero l)
 getD-map f d e (x ∷ xs) zero l = refl
 getD-map f d e (x ∷ xs) (suc i) l = getD-map f d e xs i (le-of-suc-le-suc l)
 
-all-take : {A : Type 0} (P : A → Type 0) (k : ℕ) (xs : List A) → All P xs → All P (take k xs)
-all-take P zero xs a = tt
-all-take P (suc k) [] a = tt
-all-take P (suc k) (x ∷ xs) a = (a .0, all-take P k xs (a .1))
-
 all-drop : {A : Type 0} (P : A → Type 0) (k : ℕ) (xs : List A) → All P xs → All P (drop k xs)
 all-drop P zero xs a = a
 all-drop P (suc k) [] a = tt
@@ -56,11 +52,6 @@ all-drop P (suc k) (x ∷ xs) a = all-drop P k xs (a .1)
 all-weaken : {A : Type 0} (P Q : A → Type 0) → ((x : A) → P x → Q x) → (xs : List A) → All P xs → All Q xs
 all-weaken P Q f [] a = tt
 all-weaken P Q f (x ∷ xs) a = (f x (a .0), all-weaken P Q f xs (a .1))
-
-pub all-get : {A : Type 0} (P : A → Type 0) (d : A) (xs : List A) (i : ℕ) → All P xs → i < length xs → P (getD xs i d)
-all-get P d [] i a l = absurd (not-suc-le-zero l)
-all-get P d (x ∷ xs) zero a l = a .0
-all-get P d (x ∷ xs) (suc i) a l = all-get P d xs i (a .1) (le-of-suc-le-suc l)
 
 getD-last : {A : Type 0} (d x : A) (xs : List A) → getD (xs ++ x ∷ []) (length xs) d ≡ x
 getD-last d x [] = refl

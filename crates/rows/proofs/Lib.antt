@@ -1,5 +1,6 @@
 pub mod Mix
 pub mod Words
 pub mod Parts
+pub mod Single
 pub mod Tables
 pub mod Indexing

@@ -5,7 +5,7 @@ use Prim.Native.Nat.{ℕ, zero, suc, _+_, _-_, _*_, _≤_, _<_}
 use native.Mathlib.Omega.{arith}
 use native.Mathlib.Nat.{zero-add, suc-add}
 use lib.ListN.{length-replicate, replicate-append-replicate, set, getD, length, take, drop, length-append, length-take, length-drop, take-append-drop}
-use lib.Seq.{set-append-left, getD-append-add, getD-drop, getD-take, take-at, drop-at, length-take-le, take-append-le, drop-append-le, take-take, take-add, drop-drop}
+use lib.Seq.{set-append-left, getD-append-add, getD-drop, getD-take, take-at, drop-at, length-take-le, take-append-le, drop-append-le, drop-append-add, take-take, take-add, drop-drop}
 use Rattle.rows.specs.Parts.{part, put, zeros}
 
 pub part-long : (a k : ℕ) (xs : List ℕ) → a + k ≤ length xs → length (part a k xs) ≡ k
@@ -94,6 +94,35 @@ get-high a k j xs ys h l e =
 
 pub get-part : (a k i : ℕ) (xs : List ℕ) → i < k → getD (part a k xs) i 0 ≡ getD xs (a + i) 0
 get-part a k i xs l = getD-take k (drop a xs) i 0 l ∙ getD-drop a xs i 0
+
+-- a part of a part
+pub part-part : (b n a k : ℕ) (xs : List ℕ) → a + k ≤ n → b + n ≤ length xs → part a k (part b n xs) ≡ part (b + a) k xs
+part-part b n a k xs h m =
+    ap (take k) (ap (λ (j : ℕ). drop a (take j (drop b xs))) (let z : n ≡ a + (n - a) = omega arith in z) ∙ drop-take a (n - a) (drop b xs) (simp length-drop (omega arith)))
+    ∙ take-take k (n - a) (drop a (drop b xs)) (omega arith) ∙ ap (take k) (drop-drop a b xs)
+
+-- a part above the one that is put in
+pub part-high : (a k b l : ℕ) (xs ys : List ℕ) → b + l ≤ a → a + k ≤ length xs → length ys ≡ l → part a k (put b l xs ys) ≡ part a k xs
+part-high a k b l xs ys h m e =
+    let long : length (take b xs) ≡ b = length-take-le b xs (omega arith) in
+    let t : ℕ = a - (b + l) in
+    ap (take k) (ap (λ (j : ℕ). drop j (put b l xs ys)) (let z : a ≡ length (take b xs) + (length ys + t) = omega (arith, long) in z)
+    ∙ drop-append-add (take b xs) (ys ++ drop l (drop b xs)) (length ys + t) ∙ drop-append-add ys (drop l (drop b xs)) t
+    ∙ drop-drop t l (drop b xs) ∙ drop-drop (l + t) b xs ∙ ap (λ (j : ℕ). drop j xs) (let z : b + (l + t) ≡ a = omega arith in z))
+
+-- a part put into a part that is put in
+pub put-inner : (b n a k : ℕ) (xs ts ys : List ℕ) → b ≤ length xs → length ts ≡ n → a + k ≤ n → put (b + a) k (put b n xs ts) ys ≡ put b n xs (put a k ts ys)
+put-inner b n a k xs ts ys l e h =
+    let X : List ℕ = take b xs in
+    let R : List ℕ = drop n (drop b xs) in
+    let lx : length X ≡ b = length-take-le b xs l in
+    let la : length (take a ts) ≡ a = length-take-le a ts (omega arith) in
+    let lk : length (part a k ts) ≡ k = part-long a k ts (omega arith) in
+    let split : X ++ (ts ++ R) ≡ (X ++ take a ts) ++ (part a k ts ++ (drop k (drop a ts) ++ R)) =
+    ap (λ (t : List ℕ). X ++ (t ++ R)) (sym (put-part a k ts)) ∙ simp append-assoc in
+    ap (λ (t : List ℕ). put (b + a) k t ys) split
+    ∙ put-at (b + a) k (X ++ take a ts) (part a k ts) (drop k (drop a ts) ++ R) ys (length-append X (take a ts) ∙ omega (arith, lx, la)) lk
+    ∙ simp append-assoc
 
 -- ---- zeros
 

@@ -1,41 +1,23 @@
 -- Tables as words: where a row stands, what it reads as, and one row more. Assumes nothing.
-use mathlib.Core.Path.{_≡_, refl, sym, ap, _∙_}
+use mathlib.Core.Path.{_≡_, refl, sym, ap, _∙_, subst}
 use mathlib.Core.List.{List, [], _∷_, _++_, append-assoc}
 use Prim.Native.Nat.{ℕ, zero, suc, _+_, _-_, _*_, _≤_, _<_}
 use native.Mathlib.Nat.{le-of-suc-le-suc, not-suc-le-zero, suc-mul, zero-mul, zero-add, mul-le-mul-right, add-comm}
+use native.Mathlib.Decide.{decLe}
 use native.Mathlib.Omega.{arith}
 use lib.ListN.{length, take, drop, getD, replicate, length-append, length-drop, length-replicate, replicate-append-replicate}
-use lib.Seq.{length-take-le, take-at, drop-at, take-append-add, drop-append-add, drop-drop}
+use lib.Seq.{take-take, length-take-le, take-at, drop-at, take-append-add, drop-append-add, drop-drop}
 use borrow.Rule.Slice.PartMut.{putMid, midOf, post-is, mid-len}
 use Rattle.lists.specs.Lists.{All}
+use Rattle.lists.proofs.Members.{all-get, all-take}
 use Rattle.tables.specs.Definitions.{Pair, ownTriple, subsets}
 use Rattle.candidates.specs.Candidates.{pairOf, Readable}
 use Rattle.rows.specs.Parts.{part, put, zeros}
 use Rattle.rows.specs.Rows.{rowOf, Fit, tableOf, rowsIn, IsRow, Rows, slot}
-use Rattle.rows.proofs.Parts.{drop-zeros, zeros-append}
+use Rattle.rows.proofs.Single.{length-row, pair-row, zeros-row}
 
 pub row-within : (i n w : ℕ) → i < n → i * w + w ≤ n * w
 row-within i n w l = rw (← suc-mul i w) (mul-le-mul-right w l)
-
--- ---- one row
-
-pub length-row : (w : ℕ) (x : Pair) → Fit w x → length (rowOf w x) ≡ w
-unfolding rowOf Fit
-length-row w [] f = absurd (omega arith)
-length-row w (q ∷ s) f = simp (length-append, length-replicate) (omega arith)
-
-pub pair-row : (w : ℕ) (x : Pair) → Fit w x → pairOf (rowOf w x) ≡ x
-unfolding pairOf rowOf Fit
-pair-row w [] f = absurd (omega arith)
-pair-row w (q ∷ s) f = ap (λ (t : List ℕ). q ∷ t) (take-at s (zeros (w - (2 + length s))) (length s) refl)
-
-pub row-count : (w : ℕ) (x : Pair) → Fit w x → 2 + getD (rowOf w x) 1 0 ≤ w
-unfolding rowOf Fit
-row-count w [] f = absurd (omega arith)
-row-count w (q ∷ s) f = omega arith
-
-pub row-readable : (w : ℕ) (x : Pair) → Fit w x → Readable (rowOf w x)
-row-readable w x f = rw (length-row w x f) (row-count w x f)
 
 -- ---- a table
 
@@ -131,81 +113,31 @@ rows-of w p n xs area e c l f =
     let k : rowsIn w n area ≡ xs = ap (λ (j : ℕ). rowsIn w j area) (sym c) ∙ ap (rowsIn w (length xs)) e ∙ rowsIn-table w p xs f (omega arith) in
     (record { words = rw k e; room = l; fit = rw k f }, k)
 
--- ---- a row stored over another
+-- each row of a table is one, those that are free too
+pub slot-row : (w p : ℕ) (xs : List Pair) (i : ℕ) → 2 ≤ w → All (Fit w) xs → length xs ≤ p → i < p → IsRow w (slot w i (tableOf w p xs))
+slot-row w p xs i h f l g = step (decLe (suc i) (length xs))
+  where
+    step : Dec (suc i ≤ length xs) → IsRow w (slot w i (tableOf w p xs))
+    step (yes k) =
+        let fx : Fit w (getD xs i []) = all-get (Fit w) [] xs i f k in
+        let e : pairOf (rowOf w (getD xs i [])) ≡ getD xs i [] = pair-row w (getD xs i []) fx in
+        rw (slot-at w p xs i f l k) (record { words = rw e; fit = rw e fx })
+    step (no k) = rw (slot-free w p xs i f (omega arith) g) (zeros-row w h)
 
-pub row-zeros : (w : ℕ) (x : Pair) → Fit w x → (k : ℕ) → 1 + length x ≤ k → k ≤ w → drop k (rowOf w x) ≡ zeros (w - k)
-unfolding rowOf Fit
-row-zeros w [] f k l h = absurd (omega arith)
-row-zeros w (q ∷ s) f k l h =
-    let t : ℕ = k - (2 + length s) in
-    let e : k ≡ suc (suc (length s + t)) = omega arith in
-    ap (λ (j : ℕ). drop j (q ∷ length s ∷ (s ++ zeros (w - (2 + length s))))) e
-    ∙ drop-append-add s (zeros (w - (2 + length s))) t ∙ drop-zeros t (w - (2 + length s)) (omega arith) ∙ ap zeros (let z : w - (2 + length s) - t ≡ w - k = omega arith in z)
+-- ---- the rows from place i on cleared, the last first
 
--- the words that a row reads, and zeros
-stored : (w : ℕ) (row : List ℕ) → Readable row → length row ≡ w → take (2 + getD row 1 0) row ++ zeros (w - (2 + getD row 1 0)) ≡ rowOf w (pairOf row)
-unfolding rowOf pairOf
-stored w [] r e = absurd (omega arith)
-stored w (a ∷ []) r e = absurd (omega arith)
-stored w (a ∷ b ∷ row) r e =
-    let two : 2 + b ≡ suc (suc b) = omega arith in
-    let long : length (take b row) ≡ b = length-take-le b row (omega arith) in
-    rw (long, two)
+module _ (w p i : ℕ) (xs : List Pair) (area : List ℕ) (f : All (Fit w) xs) (l : length xs ≤ p) (h : i ≤ length xs) (e : area ≡ tableOf w p (take i xs)) where
+  taken : length (take i xs) ≡ i
+  taken = length-take-le i xs h
 
--- its first words read the same
-pub read-front : (row row' : List ℕ) → Readable row → take (2 + getD row 1 0) row' ≡ take (2 + getD row 1 0) row → 2 + getD row 1 0 ≤ length row' → Readable row' × (pairOf row' ≡ pairOf row)
-unfolding pairOf
-read-front [] row' r e l = absurd (omega arith)
-read-front (a ∷ []) row' r e l = absurd (omega arith)
-read-front (a ∷ b ∷ row) [] r e l = absurd (omega arith)
-read-front (a ∷ b ∷ row) (x ∷ []) r e l = absurd (omega arith)
-read-front (a ∷ b ∷ row) (x ∷ y ∷ row') r e l =
-    let two : 2 + b ≡ suc (suc b) = omega arith in
-    let k : _≡_ {A = List ℕ} (x ∷ y ∷ take b row') (a ∷ b ∷ take b row) = rw two at e in
-    let ex : x ≡ a = cc in
-    let ey : y ≡ b = cc in
-    let er : take b row' ≡ take b row = cc in
-    (omega arith, rw (ex, ey, er))
+  pub left-long : length area ≡ p * w
+  left-long = ap length e ∙ length-table w p (take i xs) (all-take (Fit w) i xs f) (omega (arith, taken))
 
-module _ (w : ℕ) (part row : List ℕ) (h : IsRow w part) (r : Readable row) (e : length row ≡ w) where
-  abbrev new : ℕ
-  new = 2 + getD row 1 0
+  pub left-row : (j : ℕ) → j < p → 2 ≤ w → IsRow w (slot w j area)
+  left-row j g k = rw e (slot-row w p (take i xs) j k (all-take (Fit w) i xs f) (omega (arith, taken)) g)
 
-  abbrev old : ℕ
-  old = 2 + getD part 1 0
-
-  front-long : length (take new row) ≡ new
-  front-long = length-take-le new row r
-
-  pub part-long : length part ≡ w
-  part-long = ap length (h .words) ∙ length-row w (pairOf part) (h .fit)
-
-  pub old-within : old ≤ w
-  old-within = rw (h .words) (row-count w (pairOf part) (h .fit))
-
-  -- how long the row was
-  old-is : old ≡ 1 + length (pairOf part)
-  unfolding pairOf
-  old-is = omega (arith, length-take-le (getD part 1 0) (drop 2 part) (simp length-drop (omega (arith, old-within, part-long))))
-
-  rest : (k : ℕ) → old ≤ k → k ≤ w → drop k part ≡ zeros (w - k)
-  rest k l g = ap (drop k) (h .words) ∙ row-zeros w (pairOf part) (h .fit) k (omega (arith, old-is)) g
-
-  -- the new row is as long as the old one, or longer
-  pub stored-long : old ≤ new → take new row ++ drop (length (take new row)) part ≡ rowOf w (pairOf row)
-  stored-long l = ap (λ (t : List ℕ). take new row ++ t) (ap (λ (k : ℕ). drop k part) front-long ∙ rest new l (omega (arith, r))) ∙ stored w row r e
-
-  -- it is shorter: what is left of the old one is cleared
-  pub stored-short : new < old → old ≤ w → (ys : List ℕ) → ys ≡ zeros (length (midOf new (old - new) (take new row ++ drop (length (take new row)) part)))
-      → putMid new (old - new) (take new row ++ drop (length (take new row)) part) ys ≡ rowOf w (pairOf row)
-  stored-short l g ys ey =
-      let F : List ℕ = take new row in
-      let P : List ℕ = F ++ drop (length F) part in
-      let long : length P ≡ w = simp (length-append, length-drop) (omega (arith, front-long, part-long)) in
-      let mid : ys ≡ zeros (old - new) = ey ∙ ap zeros (mid-len new old P (omega arith)) in
-      let back : drop old P ≡ zeros (w - old) =
-      ap (λ (k : ℕ). drop k P) (let z : old ≡ length F + (old - new) = omega (arith, front-long) in z)
-      ∙ drop-append-add F (drop (length F) part) (old - new) ∙ drop-drop (old - new) (length F) part
-      ∙ ap (λ (k : ℕ). drop k part) (let z : length F + (old - new) ≡ old = omega (arith, front-long) in z) ∙ rest old (omega arith) g in
-      rw (post-is new old P (omega arith), take-at F (drop (length F) part) new front-long, mid, back, zeros-append (old - new) (w - old))
-      (ap (λ (k : ℕ). F ++ zeros k) (let z : old - new + (w - old) ≡ w - new = omega arith in z) ∙ stored w row r e)
+  pub left-less : (j : ℕ) → suc j ≡ i → put (j * w) w area (zeros w) ≡ tableOf w p (take j xs)
+  left-less j q =
+      ap (λ (a : List ℕ). put (j * w) w a (zeros w)) e
+      ∙ table-less w p (take i xs) j (all-take (Fit w) i xs f) (taken ∙ sym q) (omega arith)
+      ∙ ap (tableOf w p) (take-take j i xs (omega arith))

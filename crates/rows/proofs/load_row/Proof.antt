@@ -4,7 +4,7 @@ use mathlib.Core.List.{List}
 use Prim.Native.Nat.{ℕ, _+_, _-_, _≤_}
 use lib.ListN.{length, take, drop, getD}
 use lib.Seq.{length-take-le, take-at}
-use Rattle.rows.proofs.Tables.{read-front}
+use Rattle.rows.proofs.Single.{read-front}
 use borrow.Author.Needs.{needs}
 use Rattle.rows.proofs.load_row.Statement.{statement}
 use Rattle.rows.proofs.load_row.Tie as tie

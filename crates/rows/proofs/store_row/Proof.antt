@@ -4,7 +4,7 @@ use mathlib.Core.List.{List}
 use Prim.Native.Nat.{ℕ, _+_, _-_, _≤_}
 use lib.ListN.{length, take, drop, getD}
 use lib.Seq.{length-take-le}
-use Rattle.rows.proofs.Tables.{part-long, old-within, stored-long, stored-short}
+use Rattle.rows.proofs.Single.{row-used, stored-long, stored-short}
 use borrow.Author.Needs.{needs}
 use Rattle.rows.proofs.store_row.Statement.{statement}
 use Rattle.rows.proofs.store_row.Tie as tie
@@ -12,7 +12,7 @@ use native.Mathlib.Omega.{arith}
 
 -- the old row ends within the part
 within : (s : tie.Start) → 2 + getD (s .args .part .now) 1 0 ≤ length (s .args .part .now)
-within s = old-within _ (s .args .part .now) (s .args .row .now) (s .pre .0) (s .pre .1 .0) (s .pre .1 .1)
+within s = row-used (s .pre .0)
 
 shared-slice-read-new : tie.Need-shared-slice-read-new
 shared-slice-read-new c = search needs
@@ -60,7 +60,7 @@ returns : tie.Need-returns
 returns c =
     let s = c .before .before .before .before .before .before .before .before .before .before .before .before .before .before in
     let k = c .before .before .before .before .before .before .before .copy-words in
-    rw (k .ensures) (stored-short _ (s .args .part .now) (s .args .row .now) (s .pre .0) (s .pre .1 .0) (s .pre .1 .1) (c .before .before .before .before .if1 .taken) (within s) _ (rw (k .ensures) at (c .before .before .clear .ensures)))
+    rw (k .ensures) (stored-short (s .pre .0) (s .args .row .now) (s .pre .1 .0) (s .pre .1 .1) (c .before .before .before .before .if1 .taken) _ (rw (k .ensures) at (c .before .before .clear .ensures)))
 
 same-length-2 : tie.Need-same-length-2
 same-length-2 c = search needs
@@ -68,7 +68,7 @@ same-length-2 c = search needs
 returns-2 : tie.Need-returns-2
 returns-2 c =
     let s = c .before .before .before .before .before .before .before .before .before .before in
-    c .before .before .before .copy-words .ensures ∙ stored-long _ (s .args .part .now) (s .args .row .now) (s .pre .0) (s .pre .1 .0) (s .pre .1 .1) (c .if1 .left)
+    c .before .before .before .copy-words .ensures ∙ stored-long (s .pre .0) (s .args .row .now) (s .pre .1 .0) (s .pre .1 .1) (c .if1 .left)
 
 pub store-row-spec : {M : Type 1} → statement M
 store-row-spec =
