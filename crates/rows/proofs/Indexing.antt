@@ -8,6 +8,7 @@ use native.Mathlib.Omega.{arith}
 use lib.ListN.{length, take, drop, getD, length-append, length-take, length-drop, length-map, drop-of-length-le}
 use lib.Seq.{take-length, length-take-le, take-at, drop-at, take-take, take-add, getD-take}
 use borrow.Rule.Slice.PartMut.{putMid, midOf, post-is}
+use Rattle.lists.specs.declared.Order.the-variants.{Same}
 use Rattle.lists.specs.Lists.{All}
 use Rattle.lists.specs.Sorted.{compareLists, second, rank, insert, Rising}
 use Rattle.lists.proofs.Members.{all-append, all-get, all-take}
@@ -17,11 +18,12 @@ use Rattle.lists.proofs.Ranks.{rank-le, insert-absent}
 use Rattle.tables.specs.Definitions.{Pair}
 use Rattle.candidates.specs.Candidates.{pairOf, Readable}
 use Rattle.rows.specs.Parts.{part, put, zeros}
-use Rattle.rows.specs.Rows.{rowOf, Fit, tableOf, slot, sortedOf, Indexed}
-use Rattle.rows.specs.Inserted.{There}
+use Rattle.rows.specs.Rows.{rowOf, Fit, tableOf, IsRow, slot, sortedOf, Indexed}
+use Rattle.rows.specs.declared.Placed.the-variants.{New}
+use Rattle.rows.specs.Inserted.{There, Inserted}
 use Rattle.rows.proofs.Parts.{part-put, part-long}
 use Rattle.rows.proofs.Single.{length-row, pair-row, row-readable}
-use Rattle.rows.proofs.Tables.{row-within, length-table, slot-at, table-put}
+use Rattle.rows.proofs.Tables.{row-within, length-table, slot-at, slot-row, table-put}
 
 -- ---- maps over lists
 
@@ -117,12 +119,32 @@ module _ {w p m : ℕ} {area index : List ℕ} (h : Indexed w p m area index) wh
   pub slot-within : (i : ℕ) → i < m → i * w + w ≤ length area
   slot-within i l = let k = row-within i p w (omega (arith, h .room)) in omega (arith, area-long)
 
+  -- the row behind them
+  pub free-row : m < p → 2 ≤ w → IsRow w (slot w m area)
+  free-row l g = rw (h .words) (slot-row w p (h .arrived) m g (h .fit) arrivals l)
+
+  pub free-within : m < p → m * w + w ≤ length area
+  free-within l = let k = row-within m p w l in omega (arith, area-long)
+
   -- the pair at place k of the rising order
   pub sorted-at : (k : ℕ) → k < m → getD (sortedOf w m area index) k [] ≡ pairOf (slot w (getD index k 0) area)
   unfolding sortedOf
   sorted-at k l =
       getD-map (λ i. pairOf (slot w i area)) 0 [] (take m index) k (omega (arith, count-long))
       ∙ ap (λ (i : ℕ). pairOf (slot w i area)) (getD-take m index k 0 l)
+
+  -- a pair that is there, and the row that the index names at its rank
+  module _ (x : Pair) (k : ℕ) (kr : k ≡ rank compareLists x (sortedOf w m area index)) where
+    pub rank-low : k ≤ m
+    rank-low = omega (arith, kr, rank-le compareLists x (sortedOf w m area index), sorted-long)
+
+    pub there-named : There x (sortedOf w m area index) → (k < m) × (compareLists x (pairOf (slot w (getD index k 0) area)) ≡ Same)
+    there-named t =
+        let l : k < m = omega (arith, t .0, kr, sorted-long) in
+        (l, ap (compareLists x) (sym (sorted-at k l)) ∙ rw kr (t .1))
+
+    pub named-there : k < m → compareLists x (pairOf (slot w (getD index k 0) area)) ≡ Same → There x (sortedOf w m area index)
+    named-there l e = (omega (arith, kr, sorted-long), rw (← kr, sorted-at k l) e)
 
   -- ---- one row more, at place k of the rising order
 
@@ -138,7 +160,7 @@ module _ {w p m : ℕ} {area index : List ℕ} (h : Indexed w p m area index) wh
     index' = named ++ drop (m + 1) index
 
     low : k ≤ m
-    low = omega (arith, kr, rank-le compareLists x (sortedOf w m area index), sorted-long)
+    low = rank-low x k kr
 
     named-long : length named ≡ m + 1
     named-long = simp (length-append, length-take, length-drop) (omega (arith, low, h .long))
@@ -195,3 +217,10 @@ module _ {w p m : ℕ} {area index : List ℕ} (h : Indexed w p m area index) wh
       (omega arith, all-weaken (λ i. i < m) (λ i. i < m + 1) (λ i l. omega arith) (drop k (take m index)) (all-drop (λ i. i < m) k (take m index) (h .places))));
       rising = rw sorted-more (subst (Rising compareLists) (rw kr (insert-absent compareLists second [] x (sortedOf w m area index) (λ l e. new (l, e)))) (rising-insert lists-lawful x (sortedOf w m area index) (h .rising)));
     }
+
+    -- what storing the row and pushing m into the index leaves
+    pub row-inserted : (area″ index″ ys : List ℕ) → area″ ≡ area' → index″ ≡ putMid k (m + 1 - k) index ys → ys ≡ take (length (midOf k (m + 1 - k) index)) (m ∷ midOf k (m + 1 - k) index)
+        → Inserted w p m x area index area″ index″ (New k)
+    row-inserted area″ index″ ys ea ei ey =
+        let e : index″ ≡ index' = ei ∙ pushed k m m index ys low (omega (arith, h .long)) ey in
+        rw (ea, e) (indexed-more, kr, new, sorted-more)

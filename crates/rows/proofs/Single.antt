@@ -57,6 +57,11 @@ stored w (a ∷ b ∷ row) r e =
     let long : length (take b row) ≡ b = length-take-le b row (omega arith) in
     rw (long, two)
 
+-- what a row reads fits one of its length
+pub read-fits : {w : ℕ} (row : List ℕ) → Readable row → length row ≡ w → Fit w (pairOf row)
+unfolding Fit pairOf
+read-fits row r e = (omega arith, omega (arith, length-take-le (getD row 1 0) (drop 2 row) (simp length-drop (omega arith))))
+
 -- its first words read the same
 pub read-front : (row row' : List ℕ) → Readable row → take (2 + getD row 1 0) row' ≡ take (2 + getD row 1 0) row → 2 + getD row 1 0 ≤ length row' → Readable row' × (pairOf row' ≡ pairOf row)
 unfolding pairOf
