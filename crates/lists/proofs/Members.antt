@@ -7,7 +7,7 @@ use mathlib.Core.List.{append-assoc, map-append}
 use Prim.Native.Nat.{ℕ, zero, suc, _+_, _*_, _<_}
 use native.Mathlib.Nat.{zero-mul, suc-mul, add-comm, not-suc-le-zero, le-of-suc-le-suc}
 use lib.Dec.{eqb}
-use lib.ListN.{length, take, getD, length-append, length-map}
+use lib.ListN.{length, take, drop, getD, length-append, length-map}
 use borrow.Author.Tests.{eq-eqb, ne-eqb, eqb-true}
 use Rattle.lists.specs.Lists.{some, keep, All, products}
 
@@ -125,6 +125,11 @@ module _ {A : Type 0} where
   all-take P zero xs a = tt
   all-take P (suc k) [] a = tt
   all-take P (suc k) (x ∷ xs) a = (a .0, all-take P k xs (a .1))
+
+  pub all-drop : (P : A → Type 0) (k : ℕ) (xs : List A) → All P xs → All P (drop k xs)
+  all-drop P zero xs a = a
+  all-drop P (suc k) [] a = tt
+  all-drop P (suc k) (x ∷ xs) a = all-drop P k xs (a .1)
 
   pub all-append : (P : A → Type 0) (xs ys : List A) → All P xs → All P ys → All P (xs ++ ys)
   all-append P [] ys h k = k

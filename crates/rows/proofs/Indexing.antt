@@ -11,7 +11,7 @@ use borrow.Rule.Slice.PartMut.{putMid, midOf, post-is}
 use Rattle.lists.specs.declared.Order.the-variants.{Same}
 use Rattle.lists.specs.Lists.{All}
 use Rattle.lists.specs.Sorted.{compareLists, second, rank, insert, Rising}
-use Rattle.lists.proofs.Members.{all-append, all-get, all-take}
+use Rattle.lists.proofs.Members.{all-append, all-get, all-take, all-drop}
 use Rattle.lists.proofs.Comparisons.{lists-lawful}
 use Rattle.lists.proofs.Canon.{rising-insert}
 use Rattle.lists.proofs.Ranks.{rank-le, insert-absent}
@@ -45,11 +45,6 @@ pub getD-map : {A B : Type 0} (f : A → B) (d : A) (e : B) (xs : List A) (i : �
 getD-map f d e [] i l = absurd (not-suc-le-zero l)
 getD-map f d e (x ∷ xs) zero l = refl
 getD-map f d e (x ∷ xs) (suc i) l = getD-map f d e xs i (le-of-suc-le-suc l)
-
-all-drop : {A : Type 0} (P : A → Type 0) (k : ℕ) (xs : List A) → All P xs → All P (drop k xs)
-all-drop P zero xs a = a
-all-drop P (suc k) [] a = tt
-all-drop P (suc k) (x ∷ xs) a = all-drop P k xs (a .1)
 
 all-weaken : {A : Type 0} (P Q : A → Type 0) → ((x : A) → P x → Q x) → (xs : List A) → All P xs → All Q xs
 all-weaken P Q f [] a = tt
