@@ -1,20 +1,20 @@
 -- A table written out in its order over another, row by row. Assumes nothing.
 use mathlib.Core.Path.{_≡_, refl, sym, ap, ap₂, _∙_, subst}
 use mathlib.Core.List.{List, [], _∷_, _++_, append-assoc}
-use Prim.Native.Nat.{ℕ, zero, suc, _+_, _-_, _*_, _≤_, _<_}
+use Prim.Native.Nat.{ℕ, zero, suc, _+_, _-_, _*_, _≤_, _<_, max}
 use native.Mathlib.Nat.{not-suc-le-zero, le-of-suc-le-suc}
 use native.Mathlib.Numerals.{add-one}
 use native.Mathlib.Omega.{arith}
 use lib.ListN.{length, take, drop, getD, length-append, length-take, length-drop}
-use lib.Seq.{length-take-le, take-at, drop-at, drop-append-add, drop-drop, take-suc}
+use lib.Seq.{take-all, length-take-le, take-at, drop-at, drop-append-add, drop-drop, take-suc}
 use Rattle.lists.specs.Lists.{All}
 use Rattle.lists.proofs.Members.{all-append, all-take, all-drop, all-map, all-get}
 use Rattle.tables.specs.Definitions.{Pair}
 use Rattle.candidates.specs.Candidates.{pairOf}
 use Rattle.rows.specs.Parts.{part, put, zeros, Apart}
 use Rattle.rows.specs.Rows.{rowOf, Fit, tableOf, rowsIn, IsRow, Rows, slot, sortedOf, Indexed}
-use Rattle.rows.proofs.Parts.{part-put, part-long, part-part, part-high, put-inner, put-part, put-long}
-use Rattle.rows.proofs.Tables.{row-within, length-table, slot-row, table-put, length-rowsIn}
+use Rattle.rows.proofs.Parts.{part-put, part-long, part-part, part-high, put-inner, put-part, put-put, put-long}
+use Rattle.rows.proofs.Tables.{row-within, length-table, slot-row, table-put, length-rowsIn, rows-of}
 use Rattle.rows.proofs.Indexing.{sorted-long, sorted-at, place-lt, slot-fits, slot-is-row}
 
 -- the pairs of a table that is being made fit their rows
@@ -88,3 +88,57 @@ module _ (w p m n to from : ℕ) (ws index : List ℕ) (a : Apart to from (p * w
       ap (λ (x : List ℕ). put (to + i * w) w x (rowOf w (getD new i []))) e
       ∙ put-inner to (p * w) (i * w) w ws (tableOf w p (half i)) (rowOf w (getD new i [])) (omega (arith, a .before, a .within)) (table-long i (omega arith)) (omega arith)
       ∙ ap (put to (p * w) ws) (table-put w p (half i) (getD new i []) i (half-fit i) (half-long i (omega arith) .0) (omega (arith, h .room)) ∙ ap (tableOf w p) (half-more i l))
+
+  -- ---- all rows written: the target has the larger count of rows, the area that they come from is as it was
+
+  all : take m new ≡ new
+  all = take-all m new (omega (arith, sorted-long h))
+
+  abbrev pub both : List Pair
+  both = new ++ drop m old
+
+  both-is : half m ≡ both
+  both-is = ap (λ (t : List Pair). t ++ drop m old) all
+
+  both-long : length both ≡ max m n
+  both-long = length-append new (drop m old) ∙ omega (arith, sorted-long h, length-drop m old, length-rowsIn w n (part to (p * w) ws))
+
+  both-fit : All (Fit w) both
+  both-fit = subst (All (Fit w)) both-is (half-fit m)
+
+  most : max m n ≤ p
+  most = omega (arith, t .room, h .room)
+
+  module _ (vs : List ℕ) (e : vs ≡ put to (p * w) ws (tableOf w p both)) where
+    long′ : length (tableOf w p both) ≡ p * w
+    long′ = length-table w p both both-fit (omega (arith, both-long, most))
+
+    target : part to (p * w) vs ≡ tableOf w p both
+    target = ap (part to (p * w)) e ∙ part-put to (p * w) ws (tableOf w p both) (omega (arith, a .before, a .within)) long′
+
+    pub target-rows : Rows w p (max m n) (part to (p * w) vs)
+    target-rows = rows-of w p (max m n) both (part to (p * w) vs) target both-long most both-fit .0
+
+    -- the rows that stay are the new ones
+    target-left : take m (rowsIn w (max m n) (part to (p * w) vs)) ≡ new
+    target-left = ap (take m) (rows-of w p (max m n) both (part to (p * w) vs) target both-long most both-fit .1) ∙ take-at new (drop m old) m (sorted-long h)
+
+    abbrev cleared-to : List ℕ
+    cleared-to = put to (p * w) ws (tableOf w p new)
+
+    pub target-cleared : (ys : List ℕ) → ys ≡ tableOf w p (take m (rowsIn w (max m n) (part to (p * w) vs))) → put to (p * w) vs ys ≡ cleared-to
+    target-cleared ys q =
+        ap₂ (λ (x : List ℕ) (y : List ℕ). put to (p * w) x y) e (q ∙ ap (tableOf w p) target-left)
+        ∙ put-put to (p * w) ws (tableOf w p both) (tableOf w p new) (omega (arith, a .before, a .within)) long′
+
+    new-long : length (tableOf w p new) ≡ p * w
+    new-long = length-table w p new (sorted-fit h) (omega (arith, sorted-long h, h .room))
+
+    source-same : part from (p * w) cleared-to ≡ part from (p * w) ws
+    source-same = part-high from (p * w) to (p * w) ws (tableOf w p new) (a .before) (a .within) new-long
+
+    pub source-rows : Rows w p m (part from (p * w) cleared-to)
+    source-rows = rw source-same (rows-of w p m (h .arrived) (part from (p * w) ws) (h .words) (h .count) (h .room) (h .fit) .0)
+
+    pub cleared-long : length cleared-to ≡ length ws
+    cleared-long = put-long to (p * w) ws (tableOf w p new) (omega (arith, a .before, a .within)) new-long
