@@ -1,1 +1,119 @@
 // Candidate rows: what a command makes of one row or of two, in a lent row of words.
+ghost use mathlib.Core.Path.{_≡_};
+ghost use mathlib.Core.List.{_∷_};
+ghost use Prim.Native.Nat.{_≤_, _<_};
+ghost use lib.ListN.{length};
+ghost use Rattle.labels.specs.Labels.{labelCount};
+ghost use Rattle.labels.specs.Sets.{has, without, replace};
+ghost use Rattle.expression.specs.Commands.{Suits};
+ghost use Rattle.tables.specs.Triples.{relabelTriple, settles};
+ghost use Rattle.tables.specs.Definitions.{subsets, unitePairs};
+ghost use Rattle.runs.specs.Runs.{Grown};
+ghost use Rattle.candidates.specs.Candidates.{pairOf, Readable, Made, mapTriple};
+use expression::Command;
+use expression::Kind;
+
+// How many labels there are, as words count them.
+const LABELS: u32 = labels::LABELS as u32;
+
+// Whether the mark m is in the set a.
+fn has_bit(m: u32, a: u32) -> bool
+    requires { ⌜ m < 32 ⌝ }
+    ensures { λ r. ⌜ r ≡ has m a ⌝ }
+{
+    (a >> m) % 2 == 1
+}
+
+fn without_bit(m: u32, a: u32) -> u32
+    requires { ⌜ m < 32 ⌝ }
+    ensures { λ r. ⌜ r ≡ without m a ⌝ }
+{
+    a - ((a >> m) % 2 << m)
+}
+
+fn replace_bit(m: u32, n: u32, a: u32) -> u32
+    requires { ⌜ (m < 32) × (n < 32) ⌝ }
+    ensures { λ r. ⌜ r ≡ replace m n a ⌝ }
+{
+    let digit = (a >> m) % 2;
+    (digit << n) | (a - (digit << m))
+}
+
+fn relabel_triple(i: u32, j: u32, r: u32) -> u32
+    requires { ⌜ (i < labelCount) × (j < labelCount) ⌝ }
+    ensures { λ s. ⌜ s ≡ relabelTriple labelCount i j r ⌝ }
+{
+    let u = replace_bit(2 * LABELS + i, 2 * LABELS + j, r);
+    let f = replace_bit(LABELS + i, LABELS + j, u);
+    replace_bit(i, j, f)
+}
+
+fn settles(k: Kind, i: u32, q: u32, r: u32) -> bool
+    requires { ⌜ i < labelCount ⌝ }
+    ensures { λ s. ⌜ s ≡ settles labelCount k i q r ⌝ }
+{
+    match k {
+        Kind::Head => has_bit(i, r),
+        Kind::Positive => has_bit(LABELS + i, r),
+        Kind::Negative => has_bit(i, q),
+    }
+}
+
+// What the command makes of a triple r, where q is the interpretation's own.
+pub fn map_triple(c: Command, q: u32, r: u32) -> u32
+    requires { ⌜ Suits labelCount c ⌝ }
+    ensures { λ s. ⌜ s ≡ mapTriple labelCount c q r ⌝ }
+{
+    match c {
+        Command::Relabel(i, j) => relabel_triple(i, j, r),
+        Command::Connect(k, i, j) => {
+            if settles(k, i, q, r) {
+                without_bit(2 * LABELS + j, r)
+            } else {
+                r
+            }
+        }
+        Command::Atom(_) => r,
+        Command::Rule(_) => r,
+        Command::Union => r,
+    }
+}
+
+// The subsets of two interpretations united: one side whole and the other shrunk, then both shrunk. The answer is as runs::insert's.
+fn unite_subsets(run: &mut [u32], qa: u32, a: &[u32], qb: u32, b: &[u32]) -> usize
+    ensures { λ r. ⌜ Grown (subsets (unitePairs (qa ∷ now (a .entry)) (qb ∷ now (b .entry)))) r (now (run .entry)) (now (run .exit)) ⌝ }
+{
+    let left = runs::insert_unions(run, 0, b, qa);
+    if run.len() < left {
+        return left;
+    }
+    let both = runs::insert_unions(run, left, a, qb);
+    if run.len() < both {
+        return both;
+    }
+    // neither side has a subset
+    if both == 0 {
+        return 0;
+    }
+    runs::insert_products(run, both, a, b)
+}
+
+// The row of two united pairs. The answer is how many subsets it has, or more than the row has room for. What stands behind the subsets is left.
+pub fn unite_row(row: &mut [u32], a: &[u32], b: &[u32]) -> usize
+    requires { ⌜ (2 ≤ length (now row)) × (length (now row) ≤ 4096) ⌝ }
+    requires { ⌜ Readable (now a) ⌝ }
+    requires { ⌜ Readable (now b) ⌝ }
+    ensures { λ r. ⌜ Made (length (now (row .entry))) r (unitePairs (pairOf (now (a .entry))) (pairOf (now (b .entry)))) (now (row .exit)) ⌝ }
+{
+    let qa = a[0];
+    let qb = b[0];
+    let na = a[1] as usize;
+    let nb = b[1] as usize;
+    let m = unite_subsets(&mut row[2..], qa, &a[2..2 + na], qb, &b[2..2 + nb]);
+    if row.len() - 2 < m {
+        return m;
+    }
+    row[0] = qa | qb;
+    row[1] = m as u32;
+    m
+}

@@ -1,0 +1,4 @@
+pub mod Marks
+pub mod Mapping
+pub mod Uniting
+pub mod Making
