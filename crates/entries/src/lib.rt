@@ -109,3 +109,35 @@ fn merge_value(vals: &mut [u64], carry: Carry, p: usize, m: usize, k: usize, v: 
         }
     }
 }
+
+// The row with its value put among the m rows; where its equal stands, the values merge. The answer is the new count, or p + 1 where there is no room.
+pub fn insert_entry(
+    area: &mut [u32],
+    index: &mut [u32],
+    vals: &mut [u64],
+    carry: Carry,
+    w: usize,
+    p: usize,
+    m: usize,
+    row: &[u32],
+    v: u64,
+) -> usize
+    requires { ⌜ (2 ≤ w) × (p ≤ 1024) ⌝ }
+    requires { ⌜ Indexed w p m (now area) (now index) ⌝ }
+    requires { ⌜ Kept carry p m (now vals) × Keeps carry v ⌝ }
+    requires { ⌜ Readable (now row) × (length (now row) ≡ w) ⌝ }
+    ensures { λ r. ⌜ Entered carry w p m r (record { item = pairOf (now (row .entry)); value = v }) (now (area .entry)) (now (index .entry)) (now (vals .entry)) (now (area .exit)) (now (index .exit)) (now (vals .exit)) ⌝ }
+{
+    let r = rows::insert_row(area, index, w, p, m, row);
+    match r {
+        Placed::New(k) => {
+            push_value(vals, carry, p, m, k, v);
+            m + 1
+        }
+        Placed::Old(k) => {
+            merge_value(vals, carry, p, m, k, v);
+            m
+        }
+        Placed::Full => p + 1,
+    }
+}
