@@ -2,3 +2,4 @@ pub mod Marks
 pub mod Mapping
 pub mod Uniting
 pub mod Making
+pub mod Changing

@@ -1,14 +1,20 @@
--- What a command makes of a triple, by the command's form. Assumes nothing.
+-- What a command makes of a triple, by the command's form, and of the subsets of a pair, one by one. Assumes nothing.
 use mathlib.Core.Path.{_≡_}
 use mathlib.Core.Bool.{Bool, cond}
-use Prim.Native.Nat.{ℕ, _+_, _*_, _<_}
+use mathlib.Core.List.{List, [], _∷_, map}
+use Prim.Native.Nat.{ℕ, _+_, _*_, _≤_, _<_}
+use lib.ListN.{length, getD, take, drop}
+use Rattle.lists.specs.Sorted.{compareNumbers, second, insert, canon, setOf}
 use Rattle.labels.specs.Sets.{without}
 use Rattle.expression.specs.declared.Kind.{Kind}
 use Rattle.expression.specs.declared.Command.{Command}
 use Rattle.expression.specs.declared.Command.the-variants.{Atom, Rule, Union, Relabel, Connect}
 use Rattle.expression.specs.Commands.{Suits}
 use Rattle.tables.specs.Triples.{settles, relabelTriple, connectTriple}
-use Rattle.candidates.specs.Candidates.{mapTriple}
+use Rattle.tables.specs.Definitions.{subsets, mapPair}
+use Rattle.runs.specs.Runs.{Grown}
+use Rattle.runs.proofs.Growing.{Going, empty, step, one, map-at}
+use Rattle.candidates.specs.Candidates.{mapTriple, mapPairBy}
 
 module _ (K : ℕ) (c : Command) where
   pub relabel-labels : {i j : ℕ} → c ≡ Relabel i j → Suits K c → (i < K) × (j < K)
@@ -38,3 +44,15 @@ module _ (K : ℕ) (c : Command) where
   pub union-leaves : (q r : ℕ) → c ≡ Union → r ≡ mapTriple K c q r
   unfolding mapTriple
   union-leaves q r e = rw e
+
+  -- the run is empty, and with all triples to come it becomes the definition's set
+  pub begins : (q : ℕ) (s run : List ℕ) → Going (subsets (mapPairBy K c (q ∷ s))) (map (mapTriple K c q) s) 0 run run
+  unfolding mapPairBy mapPair setOf canon
+  begins q s run = empty (map (mapTriple K c q) s) run
+
+  -- the next triple is put in
+  pub goes-on : (goal s : List ℕ) (q i x m r : ℕ) (run run' run₀ : List ℕ) → i < length s → x ≡ mapTriple K c q (getD s i 0)
+      → Going goal (map (mapTriple K c q) (drop i s)) m run run₀ → Grown (insert compareNumbers second x (take m run)) r run run' → r ≤ length run
+      → Going goal (map (mapTriple K c q) (drop (i + 1) s)) r run' run₀
+  goes-on goal s q i x m r run run' run₀ h e g w l =
+      step goal (x ∷ []) (map (mapTriple K c q) (drop (i + 1) s)) m r run run' run₀ (rw (map-at (mapTriple K c q) s i h, ← e) at g) (one x (take m run) r run run' w) l
