@@ -18,12 +18,12 @@ use Rattle.lists.proofs.Ranks.{rank-le, insert-absent}
 use Rattle.tables.specs.Definitions.{Pair}
 use Rattle.candidates.specs.Candidates.{pairOf, Readable}
 use Rattle.rows.specs.Parts.{part, put, zeros}
-use Rattle.rows.specs.Rows.{rowOf, Fit, tableOf, IsRow, slot, sortedOf, Indexed}
+use Rattle.rows.specs.Rows.{rowOf, Fit, tableOf, IsRow, Rows, slot, sortedOf, Indexed}
 use Rattle.rows.specs.declared.Placed.the-variants.{New}
 use Rattle.rows.specs.Inserted.{There, Inserted}
 use Rattle.rows.proofs.Parts.{part-put, part-long}
 use Rattle.rows.proofs.Single.{length-row, pair-row, row-readable}
-use Rattle.rows.proofs.Tables.{row-within, length-table, slot-at, slot-row, table-put}
+use Rattle.rows.proofs.Tables.{row-within, length-table, slot-at, slot-row, table-put, rows-all}
 
 -- ---- maps over lists
 
@@ -120,6 +120,10 @@ module _ {w p m : ℕ} {area index : List ℕ} (h : Indexed w p m area index) wh
 
   pub free-within : m < p → m * w + w ≤ length area
   free-within l = let k = row-within m p w l in omega (arith, area-long)
+
+  -- all p rows of the area, the free ones too
+  pub padded-rows : 2 ≤ w → Rows w p p area
+  padded-rows g = rows-all w p (h .arrived) area g (h .words) arrivals (h .fit)
 
   -- the pair at place k of the rising order
   pub sorted-at : (k : ℕ) → k < m → getD (sortedOf w m area index) k [] ≡ pairOf (slot w (getD index k 0) area)

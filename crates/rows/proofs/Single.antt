@@ -133,3 +133,7 @@ unfolding rowOf pairOf Fit
 zeros-row w h =
     let e : w ≡ suc (suc (w - 2)) = omega arith in
     subst (λ (v : ℕ). IsRow v (zeros v)) (sym e) (record { words = ap (λ (t : List ℕ). 0 ∷ 0 ∷ t) (ap zeros (let z : w - 2 ≡ suc (suc (w - 2)) - 2 = omega arith in z)); fit = (omega arith, omega arith) })
+
+pub row-none : (w : ℕ) → 2 ≤ w → rowOf w (0 ∷ []) ≡ zeros w
+unfolding rowOf
+row-none w h = ap zeros (let z : suc (suc (w - 2)) ≡ w = omega arith in z)

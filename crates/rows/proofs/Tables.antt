@@ -1,5 +1,5 @@
 -- Tables as words: where a row stands, what it reads as, and one row more. Assumes nothing.
-use mathlib.Core.Path.{_≡_, refl, sym, ap, _∙_, subst}
+use mathlib.Core.Path.{_≡_, refl, sym, ap, ap₂, _∙_, subst}
 use mathlib.Core.List.{List, [], _∷_, _++_, append-assoc}
 use Prim.Native.Nat.{ℕ, zero, suc, _+_, _-_, _*_, _≤_, _<_}
 use native.Mathlib.Nat.{le-of-suc-le-suc, not-suc-le-zero, suc-mul, zero-mul, zero-add, mul-le-mul-right, add-comm}
@@ -9,12 +9,12 @@ use lib.ListN.{length, take, drop, getD, replicate, length-append, length-drop, 
 use lib.Seq.{take-take, length-take-le, take-at, drop-at, take-append-add, drop-append-add, drop-drop}
 use borrow.Rule.Slice.PartMut.{putMid, midOf, post-is, mid-len}
 use Rattle.lists.specs.Lists.{All}
-use Rattle.lists.proofs.Members.{all-get, all-take}
+use Rattle.lists.proofs.Members.{all-get, all-take, all-append}
 use Rattle.tables.specs.Definitions.{Pair, ownTriple, subsets}
 use Rattle.candidates.specs.Candidates.{pairOf, Readable}
 use Rattle.rows.specs.Parts.{part, put, zeros}
 use Rattle.rows.specs.Rows.{rowOf, Fit, tableOf, rowsIn, IsRow, Rows, slot}
-use Rattle.rows.proofs.Single.{length-row, pair-row, zeros-row}
+use Rattle.rows.proofs.Single.{length-row, pair-row, zeros-row, row-none}
 
 pub row-within : (i n w : ℕ) → i < n → i * w + w ≤ n * w
 row-within i n w l = rw (← suc-mul i w) (mul-le-mul-right w l)
@@ -123,6 +123,33 @@ slot-row w p xs i h f l g = step (decLe (suc i) (length xs))
         let e : pairOf (rowOf w (getD xs i [])) ≡ getD xs i [] = pair-row w (getD xs i []) fx in
         rw (slot-at w p xs i f l k) (record { words = rw e; fit = rw e fx })
     step (no k) = rw (slot-free w p xs i f (omega arith) g) (zeros-row w h)
+
+-- ---- free rows are rows of zeros
+
+free-rows : (w p k : ℕ) → 2 ≤ w → k ≤ p → tableOf w p (replicate k (0 ∷ [])) ≡ zeros (p * w)
+unfolding tableOf
+free-rows w p zero g l = refl
+free-rows w zero (suc k) g l = absurd (not-suc-le-zero l)
+free-rows w (suc p) (suc k) g l = ap₂ (λ (x : List ℕ) (y : List ℕ). x ++ y) (row-none w g) (free-rows w p k g (le-of-suc-le-suc l)) ∙ sym (zeros-split w p)
+
+padded : (w p k : ℕ) (xs : List Pair) → 2 ≤ w → length xs + k ≤ p → tableOf w p (xs ++ replicate k (0 ∷ [])) ≡ tableOf w p xs
+unfolding tableOf
+padded w p k [] g l = free-rows w p k g (omega arith)
+padded w zero k (x ∷ xs) g l = absurd (omega arith)
+padded w (suc p) k (x ∷ xs) g l = ap (λ (t : List ℕ). rowOf w x ++ t) (padded w p k xs g (omega arith))
+
+none-fit : (w k : ℕ) → 2 ≤ w → All (Fit w) (replicate k (0 ∷ []))
+unfolding Fit
+none-fit w zero g = tt
+none-fit w (suc k) g = ((omega arith, omega arith), none-fit w k g)
+
+-- so an area of p rows has p rows
+pub rows-all : (w p : ℕ) (xs : List Pair) (area : List ℕ) → 2 ≤ w → area ≡ tableOf w p xs → length xs ≤ p → All (Fit w) xs → Rows w p p area
+rows-all w p xs area g e l f =
+    let k : ℕ = p - length xs in
+    let ys : List Pair = xs ++ replicate k (0 ∷ []) in
+    rows-of w p p ys area (e ∙ sym (padded w p k xs g (omega arith))) (length-append xs (replicate k (0 ∷ [])) ∙ omega (arith, length-replicate {A = Pair} k (0 ∷ []))) (omega arith)
+    (all-append (Fit w) xs (replicate k (0 ∷ [])) f (none-fit w k g)) .0
 
 -- ---- the rows from place i on cleared, the last first
 

@@ -1,0 +1,61 @@
+-- A table that a command makes entry by entry in the scratch area, by candidate entries. Assumes nothing.
+use mathlib.Core.Path.{_≡_}
+use mathlib.Core.List.{List, [], _∷_}
+use Prim.Native.Nat.{ℕ, _+_, _*_, _≤_, _<_, min}
+use lib.ListN.{length}
+use Rattle.lists.specs.Lists.{All}
+use Rattle.lists.specs.Sorted.{insertAll, canon}
+use Rattle.labels.specs.Labels.{labelCount}
+use Rattle.tables.specs.Definitions.{unitePairs}
+use Rattle.values.specs.Values.{Valued}
+use Rattle.candidates.specs.Candidates.{pairOf}
+use Rattle.rows.specs.Parts.{part, put}
+use Rattle.rows.specs.Rows.{Fit, Rows, Indexed}
+use Rattle.entries.specs.declared.Carry.{Carry}
+use Rattle.entries.specs.Carries.{Entry, entryAlgebra, Kept}
+use Rattle.entries.specs.Entries.{entriesOf}
+
+-- all candidates put in; the table of all candidates
+unfoldable pub enteredAll : Carry → List Entry → List Entry → List Entry
+enteredAll carry xs acc = insertAll (entryAlgebra labelCount carry .order) (entryAlgebra labelCount carry .merge) xs acc
+
+unfoldable pub tableOfAll : Carry → List Entry → List Entry
+tableOfAll carry xs = canon (entryAlgebra labelCount carry .order) (entryAlgebra labelCount carry .merge) xs
+
+-- an entry whose pair fits a row of w words
+abbrev pub FitEntry : ℕ → Entry → Type 0
+FitEntry w x = Fit w (x .item)
+
+-- how far a table is made: of the candidates cands, those of rest are left, m rows stand at word `to` (p + 1 where there are more than p); goal is the
+-- table of all candidates
+pub record Making (carry : Carry) (w p to : ℕ) (cands rest : List Entry) (m : ℕ) (ws₀ ws index vals : List ℕ) : Type 0 where
+  pub bound : m ≤ p + 1
+  pub frame : ws ≡ put to (p * w) ws₀ (part to (p * w) ws)
+  pub as-long : length ws ≡ length ws₀
+  pub indexed : Indexed w p (min m p) (part to (p * w) ws) index
+  pub kept : Kept carry p (min m p) vals
+  pub going : m ≤ p → enteredAll carry rest (entriesOf carry w m (part to (p * w) ws) index vals) ≡ tableOfAll carry cands
+  pub over : p < m → p < length (tableOfAll carry cands)
+  pub fit : All (FitEntry w) rest → All (FitEntry w) cands
+
+-- the answer of a step: the new count as in Making; p + 2 where the candidate does not fit
+pub record Stepped (carry : Carry) (w p to : ℕ) (cands rest : List Entry) (x : Entry) (r : ℕ) (ws₀ ws index vals : List ℕ) : Type 0 where
+  pub most : r ≤ p + 2
+  pub same-length : length ws ≡ length ws₀
+  pub made : r ≤ p + 1 → Making carry w p to cands rest r ws₀ ws index vals
+  pub wide : p + 1 < r → (FitEntry w x → ⊥)
+  pub scratch : ws ≡ put to (p * w) ws₀ (part to (p * w) ws)
+  pub rows : Rows w p p (part to (p * w) ws)
+
+-- a table is being made, and x is the next candidate
+abbrev pub Next : Carry → ℕ → ℕ → ℕ → ℕ → Entry → List ℕ → List ℕ → List ℕ → Type 0
+Next carry w p to m x ws index vals = (cands : List Entry) × (rest : List Entry) × (ws₀ : List ℕ) × Making carry w p to cands (x ∷ rest) m ws₀ ws index vals
+
+-- whatever table is being made, x is put in
+abbrev pub Steps : Carry → ℕ → ℕ → ℕ → ℕ → Entry → ℕ → List ℕ → List ℕ → List ℕ → List ℕ → List ℕ → List ℕ → Type 0
+Steps carry w p to m x r ws index vals ws' index' vals' =
+    (cands rest : List Entry) (ws₀ : List ℕ) → Making carry w p to cands (x ∷ rest) m ws₀ ws index vals → Stepped carry w p to cands rest x r ws₀ ws' index' vals'
+
+-- the pairs at words ra and rb united, with a value
+abbrev pub unitedAt : ℕ → ℕ → ℕ → ℕ → List ℕ → Entry
+unitedAt w ra rb v ws = record { item = unitePairs (pairOf (part ra w ws)) (pairOf (part rb w ws)); value = v }

@@ -1,0 +1,44 @@
+// One command on the tables of a workspace.
+use entries::Carry;
+ghost use mathlib.Core.Path.{_≡_};
+ghost use mathlib.Core.List.{List, [], _∷_, _++_};
+ghost use Prim.Native.Nat.{ℕ, _+_, _-_, _*_, _≤_, _<_, min};
+ghost use lib.ListN.{length, take, drop, getD};
+ghost use Rattle.candidates.specs.Candidates.{Readable};
+ghost use Rattle.rows.specs.Parts.{part, put};
+ghost use Rattle.entries.specs.Carries.{Keeps};
+ghost use Rattle.operations.specs.Making.{Next, Steps, unitedAt};
+
+// The pairs at words ra and rb united with the value v, and put into the table that is being made at word `to`. The answer is the count then; p + 1
+// where there are more than p rows, p + 2 where the united pair does not fit.
+pub fn unite_entry(
+    ws: &mut [u32],
+    row: &mut [u32],
+    index: &mut [u32],
+    vals: &mut [u64],
+    carry: Carry,
+    w: usize,
+    p: usize,
+    ra: usize,
+    rb: usize,
+    to: usize,
+    m: usize,
+    v: u64,
+) -> usize
+    requires { ⌜ (2 ≤ w) × (w ≤ 4096) × (p ≤ 1024) × (length (now row) ≡ w) ⌝ }
+    requires { ⌜ (ra + w ≤ length (now ws)) × (rb + w ≤ length (now ws)) × (to + p * w ≤ length (now ws)) ⌝ }
+    requires { ⌜ Readable (part ra w (now ws)) × Readable (part rb w (now ws)) × Keeps carry v ⌝ }
+    requires { ⌜ Next carry w p to m (unitedAt w ra rb v (now ws)) (now ws) (now index) (now vals) ⌝ }
+    ensures { λ r. ⌜ Steps carry w p to m (unitedAt w ra rb v (now (ws .entry))) r (now (ws .entry)) (now (index .entry)) (now (vals .entry)) (now (ws .exit)) (now (index .exit)) (now (vals .exit)) ⌝ }
+{
+    let s = &ws[..];
+    let k = candidates::unite_row(row, &s[ra..ra + w], &s[rb..rb + w]);
+    if w - 2 < k {
+        return p + 2;
+    }
+    if p < m {
+        return m;
+    }
+    let end = to + p * w;
+    entries::insert_entry(&mut ws[to..end], index, vals, carry, w, p, m, row, v)
+}
