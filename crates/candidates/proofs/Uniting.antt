@@ -7,10 +7,10 @@ use native.Mathlib.Omega.{arith}
 use lib.Bits.{bitOr, or-comm}
 use lib.ListN.{length, take, length-map}
 use Rattle.lists.specs.Lists.{products}
-use Rattle.lists.specs.Sorted.{compareNumbers, second, insert, insertAll, canon, setOf}
-use Rattle.lists.proofs.Canon.{length-insert, length-insertAll, canon-ext}
+use Rattle.lists.specs.Sorted.{compareNumbers, second, Rising, insert, insertAll, canon, setOf}
+use Rattle.lists.proofs.Canon.{length-insert, length-insertAll, rising-canon, canon-ext}
 use Rattle.lists.proofs.Comparisons.{numbers-lawful}
-use Rattle.tables.specs.Definitions.{subsets, unitePairs}
+use Rattle.tables.specs.Definitions.{Pair, subsets, unitePairs}
 use Rattle.runs.specs.Runs.{Grown}
 use Rattle.runs.proofs.Growing.{joined, Going, empty, step, last, no-products}
 
@@ -48,6 +48,10 @@ module _ (p : ℕ) (a : List ℕ) (q : ℕ) (b : List ℕ) where
   pub batched : joined (batches p a q b) [] ≡ subsets (unitePairs (p ∷ a) (q ∷ b))
   unfolding unitePairs setOf canon
   batched = canon-ext numbers-lawful (batches p a q b) (products bitOr a b ++ map (bitOr p) b ++ map (λ s. bitOr s q) a) to from
+
+pub united-rising : (x y : Pair) → Rising compareNumbers (subsets (unitePairs x y))
+unfolding unitePairs setOf
+united-rising x y = rising-canon numbers-lawful _
 
 -- the run is empty, and with all batches to come it becomes the definition's set
 pub begins : (p : ℕ) (a : List ℕ) (q : ℕ) (b run : List ℕ) → Going (subsets (unitePairs (p ∷ a) (q ∷ b))) (batches p a q b) 0 run run

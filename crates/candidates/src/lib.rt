@@ -14,7 +14,7 @@ ghost use Rattle.candidates.specs.Candidates.{pairOf, Readable, Made, ma
 use expression::Command;
 use expression::Kind;
 
-// How many labels there are, as words count them.
+// labels::LABELS at the width of a word.
 const LABELS: u32 = labels::LABELS as u32;
 
 // Whether the mark m is in the set a.
@@ -25,13 +25,16 @@ fn has_bit(m: u32, a: u32) -> bool
     (a >> m) % 2 == 1
 }
 
+// a without the mark m. No branch: the triples of one row differ in it.
 fn without_bit(m: u32, a: u32) -> u32
     requires { ⌜ m < 32 ⌝ }
     ensures { λ r. ⌜ r ≡ without m a ⌝ }
 {
-    a - ((a >> m) % 2 << m)
+    let digit = (a >> m) % 2;
+    a - (digit << m)
 }
 
+// a with the mark n in place of m, where it has m.
 fn replace_bit(m: u32, n: u32, a: u32) -> u32
     requires { ⌜ (m < 32) × (n < 32) ⌝ }
     ensures { λ r. ⌜ r ≡ replace m n a ⌝ }
@@ -40,6 +43,7 @@ fn replace_bit(m: u32, n: u32, a: u32) -> u32
     (digit << n) | (a - (digit << m))
 }
 
+// What had label i has label j, in each of the triple's three sets.
 fn relabel_triple(i: u32, j: u32, r: u32) -> u32
     requires { ⌜ (i < labelCount) × (j < labelCount) ⌝ }
     ensures { λ s. ⌜ s ≡ relabelTriple labelCount i j r ⌝ }
@@ -49,6 +53,7 @@ fn relabel_triple(i: u32, j: u32, r: u32) -> u32
     replace_bit(i, j, f)
 }
 
+// Whether atoms of label i meet a rule that they are put into. Negative ones count by the interpretation's own triple q: the reduct is by it.
 fn settles(k: Kind, i: u32, q: u32, r: u32) -> bool
     requires { ⌜ i < labelCount ⌝ }
     ensures { λ s. ⌜ s ≡ settles labelCount k i q r ⌝ }
@@ -80,7 +85,7 @@ pub fn map_triple(c: Command, q: u32, r: u32) -> u32
     }
 }
 
-// The subsets of two interpretations united: one side whole and the other shrunk, then both shrunk. The answer is as runs::insert's.
+// The subsets of two united interpretations: one side whole with a subset of the other, then a subset of each. The answer is as runs::insert's.
 fn unite_subsets(run: &mut [u32], qa: u32, a: &[u32], qb: u32, b: &[u32]) -> usize
     ensures { λ r. ⌜ Grown (subsets (unitePairs (qa ∷ now (a .entry)) (qb ∷ now (b .entry)))) r (now (run .entry)) (now (run .exit)) ⌝ }
 {

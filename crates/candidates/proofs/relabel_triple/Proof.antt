@@ -1,6 +1,7 @@
 -- `candidates::relabel_triple`. Assumes nothing.
 use borrow.Author.Needs.{needs}
-use Rattle.tables.specs.Triples.{relabelTriple}
+use Rattle.labels.specs.Labels.{labelCount}
+use Rattle.candidates.proofs.Mapping.{relabelled-sets}
 use Rattle.candidates.proofs.relabel_triple.Statement.{statement}
 use Rattle.candidates.proofs.relabel_triple.Tie as tie
 
@@ -32,8 +33,7 @@ replace-bit-requires-3 : tie.Need-replace-bit-requires-3
 replace-bit-requires-3 c κs = search needs
 
 returns : tie.Need-returns
-unfolding relabelTriple
-returns c = cc
+returns c = relabelled-sets labelCount _ _ _ _ _ _ (c .before .before .replace-bit .ensures) (c .before .replace-bit2 .ensures) (c .replace-bit3 .ensures)
 
 pub relabel-triple-spec : {M : Type 1} → statement M
 relabel-triple-spec =

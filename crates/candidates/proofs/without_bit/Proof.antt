@@ -4,8 +4,8 @@ use Rattle.candidates.proofs.Marks.{within, taken}
 use Rattle.candidates.proofs.without_bit.Statement.{statement}
 use Rattle.candidates.proofs.without_bit.Tie as tie
 
-shr-result : tie.Need-shr-result
-shr-result c = search needs
+shr-digit : tie.Need-shr-digit
+shr-digit c = search needs
 
 shl-result : tie.Need-shl-result
 shl-result c = search needs
@@ -17,4 +17,4 @@ returns : tie.Need-returns
 returns c = taken _ _ (c .pre)
 
 pub without-bit-spec : {M : Type 1} → statement M
-without-bit-spec = tie.close (tie.spec shr-result shl-result sub-result returns)
+without-bit-spec = tie.close (tie.spec shr-digit shl-result sub-result returns)
