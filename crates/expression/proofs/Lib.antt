@@ -1,1 +1,4 @@
+pub mod Commands
+pub mod Totals
+pub mod Readings
 pub mod Examples
