@@ -1,4 +1,6 @@
 pub mod Commands
 pub mod Totals
 pub mod Readings
+pub mod Checks
+pub mod Places
 pub mod Examples

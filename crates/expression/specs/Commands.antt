@@ -47,3 +47,8 @@ readCommand K at n b x y =
 -- the command at an offset; past the end there is none
 unfoldable pub readAt : ℕ → List ℕ → ℕ → Read
 readAt K s at = readCommand K at (length s - at) (getD s at 0) (getD s (at + 1) 0) (getD s (at + 2) 0)
+
+-- the number of the refusal; 0 for a command
+abbrev pub refusalOf : Read → ℕ
+refusalOf (Got c next) = 0
+refusalOf (Fault f) = f
