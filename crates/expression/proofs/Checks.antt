@@ -133,13 +133,15 @@ bytes-pass K s ts n x h e = let j = bytes-joined K s n h in rw (j .read) (simp (
 
 -- ---- tests of numbers
 
-pub limits-tested : (P G : ℕ) → (isLimit P && isLimit G) ≡ true → (P ≤ tableLimit) × (G ≤ tableLimit)
+pub limit-tested : (x : ℕ) → isLimit x ≡ true → (0 < x) × (x ≤ tableLimit)
 unfolding isLimit
-limits-tested P G h =
-    let b = and-both (ltb 0 P && ltb P (tableLimit + 1)) (ltb 0 G && ltb G (tableLimit + 1)) h in
-    let p = ltb-true P (tableLimit + 1) (and-both (ltb 0 P) (ltb P (tableLimit + 1)) (b .0) .1) in
-    let g = ltb-true G (tableLimit + 1) (and-both (ltb 0 G) (ltb G (tableLimit + 1)) (b .1) .1) in
-    (omega arith, omega arith)
+limit-tested x h =
+    let b = and-both (ltb 0 x) (ltb x (tableLimit + 1)) h in
+    let u = ltb-true x (tableLimit + 1) (b .1) in
+    (ltb-true 0 x (b .0), omega arith)
+
+pub limits-tested : (P G : ℕ) → (isLimit P && isLimit G) ≡ true → (P ≤ tableLimit) × (G ≤ tableLimit)
+limits-tested P G h = let b = and-both (isLimit P) (isLimit G) h in (limit-tested P (b .0) .1, limit-tested G (b .1) .1)
 
 pub area-bound : (P G : ℕ) → P ≤ tableLimit → G ≤ tableLimit → areaWords P G ≤ areaWords tableLimit tableLimit
 area-bound P G p g = let h : G + 2 ≤ tableLimit + 2 = omega arith in mul-le-mul p h

@@ -3,4 +3,5 @@ pub mod Totals
 pub mod Readings
 pub mod Checks
 pub mod Places
+pub mod Accepted
 pub mod Examples

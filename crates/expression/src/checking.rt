@@ -23,7 +23,7 @@ use super::refusals::LIMITS;
 use super::refusals::OVERLONG;
 use super::refusals::UNJOINED;
 
-// All checks, in 01's order: limits p and g, words of workspace, and masks of the atoms assumed true and false.
+// All checks in 01's order, with limits p and g, room for so many words, and the atoms assumed true and false as masks.
 pub fn check(
     s: &[u8],
     p: u64,

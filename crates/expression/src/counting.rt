@@ -5,7 +5,7 @@ ghost use Prim.Native.Nat.{_+_, _-_, min, max};
 ghost use lib.Dec.{ltb, leb};
 ghost use Rattle.expression.specs.Limits.{depthLimit, countLimit};
 ghost use Rattle.expression.specs.Refusals.{crowded, deep, bare};
-ghost use Rattle.expression.specs.Reading.{noCounts, newAtoms, newRules, depthAfter, counted, capped, countFault};
+ghost use Rattle.expression.specs.Reading.{noCounts, counted, capped, countFault};
 use super::Command;
 use super::Counts;
 use super::limits::ATOM_LIMIT;
@@ -29,6 +29,7 @@ pub fn count_fault(n: Counts, c: Command) -> u64
     }
 }
 
+// An atom or a rule: 9, then 10.
 fn leaf_fault(count: u64, limit: u64, depth: u64) -> u64
     ensures { λ r. ⌜ r ≡ cond (leb limit count) crowded (cond (leb depthLimit depth) deep 0) ⌝ }
 {
@@ -41,6 +42,7 @@ fn leaf_fault(count: u64, limit: u64, depth: u64) -> u64
     0
 }
 
+// A command on operands: 11.
 fn bare_fault(depth: u64, needed: u64) -> u64
     ensures { λ r. ⌜ r ≡ cond (ltb depth needed) bare 0 ⌝ }
 {

@@ -14,7 +14,7 @@ pub fn kind(o: Outcome) -> u64
     }
 }
 
-// The mask of the plan or the number of the refusal, else 0.
+// The mask of the interpretation shown, or the number of the refusal; else 0.
 pub fn value(o: Outcome) -> u64
     ensures { λ r. ⌜ r ≡ valueOf o ⌝ }
 {
@@ -25,7 +25,7 @@ pub fn value(o: Outcome) -> u64
     }
 }
 
-// The place of the refusal, else 0.
+// The place of the refusal; else 0.
 pub fn place(o: Outcome) -> u64
     ensures { λ r. ⌜ r ≡ placeOf o ⌝ }
 {

@@ -1,7 +1,7 @@
 -- `checking::check_bytes`: what is unread gives the whole verdict. The measure is what is left of the bytes. Assumes nothing.
 use borrow.Author.Needs.{needs}
 use mathlib.Core.Path.{_≡_, sym, ap, _∙_}
-use Prim.Native.Nat.{ℕ, _-_}
+use Prim.Native.Nat.{_-_}
 use native.Mathlib.Omega.{arith}
 use lib.ListN.{length}
 use Rattle.labels.specs.Labels.{labelCount}

@@ -1,8 +1,6 @@
 -- `counting::counted`: each count by itself. Assumes nothing.
-use mathlib.Core.Path.{_≡_, _∙_}
-use Prim.Native.Nat.{_≤_}
+use mathlib.Core.Path.{_∙_}
 use native.Mathlib.Omega.{arith}
-use Rattle.expression.specs.Limits.{countLimit}
 use Rattle.expression.specs.Reading.{newAtoms, newRules, depthAfter, counted, capped}
 use Rattle.expression.proofs.Totals.{same-counts}
 use borrow.Author.Needs.{needs}

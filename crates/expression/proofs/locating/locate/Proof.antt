@@ -1,12 +1,10 @@
 -- `locating::locate`: what is ahead holds what is to be found. The measure is what is left of the bytes. Assumes nothing.
 use borrow.Author.Needs.{needs}
-use mathlib.Core.Path.{_≡_, sym, _∙_, subst}
-use Prim.Native.Nat.{ℕ, _≤_, _<_, _-_}
+use mathlib.Core.Path.{sym, _∙_}
+use Prim.Native.Nat.{_-_}
 use native.Mathlib.Omega.{arith}
 use lib.ListN.{length}
 use Rattle.labels.specs.Labels.{labelCount}
-use Rattle.expression.specs.declared.Read.the-variants.{Command as Got, Fault}
-use Rattle.expression.specs.Commands.{readAt}
 use Rattle.expression.proofs.Commands.{read-ends}
 use Rattle.expression.proofs.Places.{Ahead, ahead-start, ahead-step, ahead-fault, ahead-here}
 use Rattle.expression.proofs.locating.locate.Statement.{statement}
