@@ -4,4 +4,5 @@ pub mod Readings
 pub mod Checks
 pub mod Places
 pub mod Accepted
+pub mod Remaining
 pub mod Examples

@@ -74,3 +74,7 @@ counted-limited n (Rule g) f h =
 counted-limited n Union f h = record { atoms = omega arith; rules = omega arith; depth = omega arith; deepest = omega arith }
 counted-limited n (Relabel i j) f h = record { atoms = omega arith; rules = omega arith; depth = omega arith; deepest = omega arith }
 counted-limited n (Connect k i j) f h = record { atoms = omega arith; rules = omega arith; depth = omega arith; deepest = omega arith }
+
+pub capped-limited : (n : Counts) → Limited n → capped n ≡ n
+unfolding capped
+capped-limited n h = same-counts _ _ (omega arith) (omega arith) (omega arith) (omega arith)

@@ -1,6 +1,6 @@
 -- `checking::are_limits`: both are limits. Assumes nothing.
-use borrow.Author.Tests.{not-true, not-false}
 use mathlib.Core.Path.{sym, _∙_}
+use borrow.Author.Tests.{not-true, not-false}
 use borrow.Author.Needs.{needs}
 use Rattle.expression.proofs.checking.are_limits.Statement.{statement}
 use Rattle.expression.proofs.checking.are_limits.Tie as tie

@@ -4,9 +4,9 @@ use mathlib.Core.Bool.{not}
 use mathlib.Core.List.{[], _∷_}
 use native.Mathlib.Omega.{arith}
 use borrow.Author.Tests.{lt-ltb, le-ltb, eq-eqb, ne-eqb, not-false}
+use borrow.Author.Needs.{needs}
 use Rattle.expression.specs.Checks.{overlongTest, limitsTest, crampedTest, clashTest, absentTest, checks, check}
 use Rattle.expression.proofs.Checks.{refuses, passes, none-left, bytes-refuse, bytes-joined, bytes-pass, limits-tested}
-use borrow.Author.Needs.{needs}
 use Rattle.expression.proofs.checking.check.Statement.{statement}
 use Rattle.expression.proofs.checking.check.Tie as tie
 

@@ -1,9 +1,9 @@
 -- `checking::check_bytes`: what is unread gives the whole verdict. The measure is what is left of the bytes. Assumes nothing.
-use borrow.Author.Needs.{needs}
 use mathlib.Core.Path.{_≡_, sym, ap, _∙_}
 use Prim.Native.Nat.{_-_}
 use native.Mathlib.Omega.{arith}
 use lib.ListN.{length}
+use borrow.Author.Needs.{needs}
 use Rattle.labels.specs.Labels.{labelCount}
 use Rattle.expression.specs.declared.Read.the-variants.{Fault}
 use Rattle.expression.specs.Commands.{refusalOf}

@@ -2,8 +2,8 @@
 use mathlib.Core.Path.{sym, ap, _∙_}
 use mathlib.Core.Bool.{not}
 use borrow.Author.Tests.{eq-eqb, ne-eqb}
-use Rattle.expression.proofs.Checks.{shifted-out}
 use borrow.Author.Needs.{needs}
+use Rattle.expression.proofs.Checks.{shifted-out}
 use Rattle.expression.proofs.checking.has_absent.Statement.{statement}
 use Rattle.expression.proofs.checking.has_absent.Tie as tie
 

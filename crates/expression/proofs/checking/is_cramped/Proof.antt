@@ -1,7 +1,7 @@
 -- `checking::is_cramped`: limits that were tested keep the product small. Assumes nothing.
 use native.Mathlib.Omega.{arith}
-use Rattle.expression.proofs.Checks.{area-bound}
 use borrow.Author.Needs.{needs}
+use Rattle.expression.proofs.Checks.{area-bound}
 use Rattle.expression.proofs.checking.is_cramped.Statement.{statement}
 use Rattle.expression.proofs.checking.is_cramped.Tie as tie
 

@@ -1,8 +1,8 @@
 -- `counting::at_depth`: what a word holds is within the cap. Assumes nothing.
 use native.Mathlib.Omega.{arith}
+use borrow.Author.Needs.{needs}
 use Rattle.expression.specs.Reading.{capped}
 use Rattle.expression.proofs.Totals.{same-counts}
-use borrow.Author.Needs.{needs}
 use Rattle.expression.proofs.counting.at_depth.Statement.{statement}
 use Rattle.expression.proofs.counting.at_depth.Tie as tie
 

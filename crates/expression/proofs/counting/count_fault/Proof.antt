@@ -1,6 +1,6 @@
 -- `counting::count_fault`: one case of the definition for each command. Assumes nothing.
-use Rattle.expression.specs.Reading.{countFault}
 use borrow.Author.Needs.{needs}
+use Rattle.expression.specs.Reading.{countFault}
 use Rattle.expression.proofs.counting.count_fault.Statement.{statement}
 use Rattle.expression.proofs.counting.count_fault.Tie as tie
 

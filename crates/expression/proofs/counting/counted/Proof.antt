@@ -1,9 +1,9 @@
 -- `counting::counted`: each count by itself. Assumes nothing.
 use mathlib.Core.Path.{_∙_}
 use native.Mathlib.Omega.{arith}
+use borrow.Author.Needs.{needs}
 use Rattle.expression.specs.Reading.{newAtoms, newRules, depthAfter, counted, capped}
 use Rattle.expression.proofs.Totals.{same-counts}
-use borrow.Author.Needs.{needs}
 use Rattle.expression.proofs.counting.counted.Statement.{statement}
 use Rattle.expression.proofs.counting.counted.Tie as tie
 

@@ -1,9 +1,9 @@
 -- `locating::locate`: what is ahead holds what is to be found. The measure is what is left of the bytes. Assumes nothing.
-use borrow.Author.Needs.{needs}
 use mathlib.Core.Path.{sym, _∙_}
 use Prim.Native.Nat.{_-_}
 use native.Mathlib.Omega.{arith}
 use lib.ListN.{length}
+use borrow.Author.Needs.{needs}
 use Rattle.labels.specs.Labels.{labelCount}
 use Rattle.expression.proofs.Commands.{read-ends}
 use Rattle.expression.proofs.Places.{Ahead, ahead-start, ahead-step, ahead-fault, ahead-here}

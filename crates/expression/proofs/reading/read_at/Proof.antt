@@ -1,9 +1,9 @@
 -- `reading::read_at`: each way out is one law of `readCommand`. Assumes nothing.
 use mathlib.Core.Path.{sym, _∙_}
 use native.Mathlib.Omega.{arith}
+use borrow.Author.Needs.{needs}
 use Rattle.expression.specs.Commands.{readAt}
 use Rattle.expression.proofs.Commands.{past-end, union-read, unknown-read, cut-read, leaf-read, pair-read}
-use borrow.Author.Needs.{needs}
 use Rattle.expression.proofs.reading.read_at.Statement.{statement}
 use Rattle.expression.proofs.reading.read_at.Tie as tie
 
