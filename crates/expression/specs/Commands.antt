@@ -55,3 +55,8 @@ Suits K (Rule g) = g < K
 Suits K Union = Unit {0}
 Suits K (Relabel i j) = (i < K) × (j < K)
 Suits K (Connect k i j) = (i < K) × (j < K)
+
+-- the number of the refusal; 0 for a command
+abbrev pub refusalOf : Read → ℕ
+refusalOf (Got c next) = 0
+refusalOf (Fault f) = f

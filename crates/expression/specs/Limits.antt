@@ -20,6 +20,10 @@ depthLimit = 8
 abbrev pub tableLimit : ℕ
 tableLimit = 1024
 
+-- the greatest count that a word of 64 bits holds
+abbrev pub countLimit : ℕ
+countLimit = 0xffffffffffffffff
+
 -- words of one pair, and of one table of P pairs
 abbrev pub rowWords : ℕ → ℕ
 rowWords G = G + 2

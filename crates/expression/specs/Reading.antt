@@ -1,14 +1,14 @@
 -- A whole expression read (01, Outcomes: 5 to 11 at the first faulty command), over K labels. Assumes nothing.
 use mathlib.Core.Bool.{true, false, cond}
 use mathlib.Core.List.{List, [], _∷_}
-use Prim.Native.Nat.{ℕ, zero, suc, _+_, _-_, max}
+use Prim.Native.Nat.{ℕ, zero, suc, _+_, _-_, min, max}
 use lib.Dec.{ltb, leb}
 use lib.ListN.{length}
 use Rattle.expression.specs.declared.Command.{Command}
 use Rattle.expression.specs.declared.Command.the-variants.{Atom, Rule, Union, Relabel, Connect}
 use Rattle.expression.specs.declared.Read.the-variants.{Command as Got, Fault}
 use Rattle.expression.specs.declared.Counts.{Counts}
-use Rattle.expression.specs.Limits.{atomLimit, ruleLimit, depthLimit}
+use Rattle.expression.specs.Limits.{atomLimit, ruleLimit, depthLimit, countLimit}
 use Rattle.expression.specs.Refusals.{crowded, deep, bare}
 use Rattle.expression.specs.Commands.{readAt}
 
@@ -44,6 +44,15 @@ counted n c = record {
   rules = n .rules + newRules c;
   depth = depthAfter (n .depth) c;
   deepest = max (n .deepest) (depthAfter (n .depth) c);
+}
+
+-- counts as words of 64 bits hold them: an expression that is too long for memory would have more
+unfoldable pub capped : Counts → Counts
+capped n = record {
+  atoms = min (n .atoms) countLimit;
+  rules = min (n .rules) countLimit;
+  depth = min (n .depth) countLimit;
+  deepest = min (n .deepest) countLimit;
 }
 
 -- tests 9 to 11 of a command after such counts, in order; 0 where it passes

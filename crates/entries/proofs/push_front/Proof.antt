@@ -47,7 +47,7 @@ loop-again c =
     let start = at-loop .before in
     let e = long at-loop in
     let l : at-loop .loop .i < length (start .args .part .now) = omega arith in
-    (omega arith, rw (at-loop .loop .inv .1, at-loop .loop .inv .2) (moved _ _ _ l), rw (at-loop .loop .inv .1) (unmoved (start .args .x) (start .args .part .now) (at-loop .loop .i) (omega arith)))
+    (omega arith, moved _ _ _ _ _ (at-loop .loop .inv .1) (at-loop .loop .inv .2) l, unmoved _ _ _ _ (at-loop .loop .inv .1) l)
 
 same-length : tie.Need-same-length Inv-loop μ-loop
 same-length c = long (c .before)

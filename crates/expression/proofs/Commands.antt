@@ -1,0 +1,147 @@
+-- Laws of one command read: how many operands a byte has, which of 5 to 8 refuses, and where a command that is read ends. Assumes nothing.
+use mathlib.Core.Path.{_≡_, refl, subst}
+use mathlib.Core.Logic.{inl, inr}
+use mathlib.Core.Bool.{Bool, true, false, cond, not, _&&_, _||_, or-false, or-true, false≢true}
+use mathlib.Core.List.{List}
+use Prim.Native.Nat.{ℕ, _+_, _-_, _≤_, _<_}
+use native.Mathlib.Nat.{eq-or-lt-of-le}
+use native.Mathlib.Omega.{arith}
+use lib.Dec.{eqb, ltb, leb}
+use lib.ListN.{length, getD, List·getD-eq-default}
+use borrow.Author.Tests.{ne-eqb, lt-ltb, le-ltb, ltb-false}
+use Rattle.expression.specs.declared.Command.{Command}
+use Rattle.expression.specs.declared.Command.the-variants.{Atom, Rule, Union}
+use Rattle.expression.specs.declared.Read.the-variants.{Command as Got, Fault}
+use Rattle.expression.specs.Refusals.{unknown, cut, group, same}
+use Rattle.expression.specs.Commands.{oneOperand, twoOperands, isCommand, operandCount, commandOf, readCommand, readAt}
+
+-- ---- how many operands a byte has
+
+-- a number from a on is a or past it
+from : (P : ℕ → Type 0) (a b : ℕ) → a ≤ b → P a → (a < b → P b) → P b
+from P a b h p q = elim (eq-or-lt-of-le h) [ inl e ↦ subst P e p | inr l ↦ q l ]
+
+-- 11 and 12
+pub leaf-operands : (b : ℕ) → 0x11 ≤ b → b < 0x13 → operandCount b ≡ 1
+unfolding operandCount oneOperand twoOperands
+leaf-operands b h l = from (λ x. operandCount x ≡ 1) 0x11 b h refl (λ h′. from (λ x. operandCount x ≡ 1) 0x12 b h′ refl (λ h″. absurd (omega arith)))
+
+-- 41, 42 and 43
+pub connect-operands : (b : ℕ) → 0x41 ≤ b → b < 0x44 → operandCount b ≡ 2
+unfolding operandCount oneOperand twoOperands
+connect-operands b h l =
+    from (λ x. operandCount x ≡ 2) 0x41 b h refl
+    (λ h′. from (λ x. operandCount x ≡ 2) 0x42 b h′ refl
+    (λ h″. from (λ x. operandCount x ≡ 2) 0x43 b h″ refl (λ h‴. absurd (omega arith))))
+
+-- every other byte but 31
+pub no-operands : (b : ℕ) → (b ≡ 0x11 → ⊥) → (b ≡ 0x12 → ⊥) → (b ≡ 0x31 → ⊥) → (b ≡ 0x41 → ⊥) → (b ≡ 0x42 → ⊥) → (b ≡ 0x43 → ⊥) → operandCount b ≡ 0
+unfolding operandCount oneOperand twoOperands
+no-operands b atom rule relabel head positive negative =
+    simp (ne-eqb _ _ atom, ne-eqb _ _ rule, ne-eqb _ _ relabel, ne-eqb _ _ head, ne-eqb _ _ positive, ne-eqb _ _ negative)
+
+-- ---- which test refuses: command byte b, n bytes from it to the end, operands x and y
+
+module _ (b : ℕ) where
+  none-is : operandCount b ≡ 0 → (oneOperand b ≡ false) × (twoOperands b ≡ false)
+  unfolding operandCount
+  none-is h = step (oneOperand b) (twoOperands b) h
+    where
+      step : (o t : Bool) → _≡_ {A = ℕ} (cond t 2 (cond o 1 0)) 0 → (o ≡ false) × (t ≡ false)
+      step o true h = absurd (omega arith)
+      step true false h = absurd (omega arith)
+      step false false h = (refl, refl)
+
+  one-is : operandCount b ≡ 1 → (oneOperand b ≡ true) × (twoOperands b ≡ false)
+  unfolding operandCount
+  one-is h = step (oneOperand b) (twoOperands b) h
+    where
+      step : (o t : Bool) → _≡_ {A = ℕ} (cond t 2 (cond o 1 0)) 1 → (o ≡ true) × (t ≡ false)
+      step o true h = absurd (omega arith)
+      step true false h = (refl, refl)
+      step false false h = absurd (omega arith)
+
+  two-is : 2 ≤ operandCount b → (operandCount b ≡ 2) × (twoOperands b ≡ true)
+  unfolding operandCount
+  two-is h = step (oneOperand b) (twoOperands b) h
+    where
+      step : (o t : Bool) → 2 ≤ cond t 2 (cond o 1 0) → (_≡_ {A = ℕ} (cond t 2 (cond o 1 0)) 2) × (t ≡ true)
+      step o true h = (refl, refl)
+      step true false h = absurd (omega arith)
+      step false false h = absurd (omega arith)
+
+  some-is : 1 ≤ operandCount b → (oneOperand b || twoOperands b) ≡ true
+  unfolding operandCount
+  some-is h = step (oneOperand b) (twoOperands b) h
+    where
+      step : (o t : Bool) → 1 ≤ cond t 2 (cond o 1 0) → (o || t) ≡ true
+      step true t h = refl
+      step false true h = refl
+      step false false h = absurd (omega arith)
+
+  some-command : 1 ≤ operandCount b → isCommand b ≡ true
+  unfolding isCommand
+  some-command h = step (eqb b 0x21) (some-is h)
+    where
+      step : (u : Bool) → (oneOperand b || twoOperands b) ≡ true → (u || oneOperand b || twoOperands b) ≡ true
+      step true e = refl
+      step false e = e
+
+  leaf-command : (x y : ℕ) → operandCount b ≡ 1 → commandOf b x y ≡ commandOf b x 0
+  unfolding commandOf oneOperand
+  leaf-command x y h = step (eqb b 0x11) (eqb b 0x12) _ _ (one-is h .0)
+    where
+      step : (p q : Bool) (c d : Command) → (p || q) ≡ true → cond p (Atom x) (cond q (Rule x) c) ≡ cond p (Atom x) (cond q (Rule x) d)
+      step true q c d e = refl
+      step false true c d e = refl
+      step false false c d e = absurd (false≢true e)
+
+module _ (K at n b x y : ℕ) where
+  pub union-read : b ≡ 0x21 → 1 ≤ n → readCommand K at n b x y ≡ Got Union (at + 1)
+  unfolding readCommand isCommand operandCount oneOperand twoOperands commandOf
+  union-read e h = rw e (simp (le-ltb n 1 h))
+
+  pub unknown-read : (b ≡ 0x21 → ⊥) → operandCount b ≡ 0 → readCommand K at n b x y ≡ Fault unknown
+  unfolding readCommand isCommand
+  unknown-read e h = simp (ne-eqb b 0x21 e, none-is b h .0, none-is b h .1)
+
+  pub cut-read : 1 ≤ operandCount b → n ≤ operandCount b → readCommand K at n b x y ≡ Fault cut
+  unfolding readCommand
+  cut-read h l = simp (some-command b h, lt-ltb n (1 + operandCount b) (omega arith))
+
+  pub leaf-read : operandCount b ≡ 1 → 1 < n → readCommand K at n b x y ≡ cond (leb K x) (Fault group) (Got (commandOf b x 0) (at + 2))
+  unfolding readCommand
+  leaf-read h l = simp (some-command b (omega arith), h, le-ltb n 2 (omega arith), one-is b h .0, one-is b h .1, leaf-command b x y h, or-false (leb K x))
+
+  pub pair-read : 2 ≤ operandCount b → operandCount b < n → readCommand K at n b x y ≡ cond (leb K x || leb K y) (Fault group) (cond (eqb x y) (Fault same) (Got (commandOf b x y) (at + 3)))
+  unfolding readCommand
+  pair-read h l = let e = two-is b h in simp (some-command b (omega arith), e .0, e .1, le-ltb n 3 (omega arith), or-true (oneOperand b))
+
+pub past-end : (K : ℕ) (s : List ℕ) (at : ℕ) → length s ≤ at → readAt K s at ≡ Fault unknown
+unfolding readAt operandCount oneOperand twoOperands
+past-end K s at h = rw (List·getD-eq-default s 0 h) (unknown-read K at (length s - at) 0 (getD s (at + 1) 0) (getD s (at + 2) 0) (λ e. omega arith) refl)
+
+-- ---- where a command ends
+
+pub read-ends : (K : ℕ) (s : List ℕ) (at : ℕ) (c : Command) (next : ℕ) → readAt K s at ≡ Got c next → (at < next) × (next ≤ length s)
+unfolding readAt readCommand
+read-ends K s at c next h =
+    step (isCommand b) (ltb (length s - at) (1 + operandCount b)) ((oneOperand b || twoOperands b) && leb K x || twoOperands b && leb K y) (twoOperands b && eqb x y) refl h
+  where
+    b : ℕ
+    b = getD s at 0
+
+    x : ℕ
+    x = getD s (at + 1) 0
+
+    y : ℕ
+    y = getD s (at + 2) 0
+
+    step : (p q r t : Bool) → ltb (length s - at) (1 + operandCount b) ≡ q
+        → cond (not p) (Fault unknown) (cond q (Fault cut) (cond r (Fault group) (cond t (Fault same) (Got (commandOf b x y) (at + (1 + operandCount b)))))) ≡ Got c next
+        → (at < next) × (next ≤ length s)
+    step true false false false e h = let k : at + (1 + operandCount b) ≡ next = cc in omega (arith, ltb-false)
+    step true false false true e h = let z : _≡_ {A = ℕ} 0 1 = cc in absurd (omega arith)
+    step true false true t e h = let z : _≡_ {A = ℕ} 0 1 = cc in absurd (omega arith)
+    step true true r t e h = let z : _≡_ {A = ℕ} 0 1 = cc in absurd (omega arith)
+    step false q r t e h = let z : _≡_ {A = ℕ} 0 1 = cc in absurd (omega arith)

@@ -1,0 +1,80 @@
+-- Laws of counts: equal field by field, within a bound, as words hold them, and within the limits. Assumes nothing.
+use mathlib.Core.Path.{_≡_, refl}
+use mathlib.Core.Bool.{Bool, true, false, cond}
+use Prim.Native.Nat.{ℕ, suc, _≤_, _<_, zero-le}
+use native.Mathlib.Omega.{arith}
+use borrow.Author.Tests.{leb-false}
+use Rattle.expression.specs.declared.Command.{Command}
+use Rattle.expression.specs.declared.Command.the-variants.{Atom, Rule, Union, Relabel, Connect}
+use Rattle.expression.specs.declared.Counts.{Counts}
+use Rattle.expression.specs.Limits.{atomLimit, ruleLimit, depthLimit, countLimit}
+use Rattle.expression.specs.Reading.{noCounts, newAtoms, newRules, depthAfter, counted, capped, countFault}
+
+pub same-counts : (m n : Counts) → m .atoms ≡ n .atoms → m .rules ≡ n .rules → m .depth ≡ n .depth → m .deepest ≡ n .deepest → m ≡ n
+same-counts m n a r d e = same
+  where
+    of : ℕ → ℕ → ℕ → ℕ → Counts
+    of a r d e = record { atoms = a; rules = r; depth = d; deepest = e }
+
+    same : of (m .atoms) (m .rules) (m .depth) (m .deepest) ≡ of (n .atoms) (n .rules) (n .depth) (n .deepest)
+    same = cc
+
+-- every count is at most m
+pub record AtMost (m : ℕ) (n : Counts) : Type 0 where
+  pub atoms : n .atoms ≤ m
+  pub rules : n .rules ≤ m
+  pub depth : n .depth ≤ m
+  pub deepest : n .deepest ≤ m
+
+pub none-at-most : (m : ℕ) → AtMost m noCounts
+unfolding noCounts
+none-at-most m = record { atoms = zero-le; rules = zero-le; depth = zero-le; deepest = zero-le }
+
+-- a command has a byte, and adds at most one to each count: so counts are at most the offset
+pub counted-at-most : (m next : ℕ) (n : Counts) (c : Command) → AtMost m n → m < next → AtMost next (counted n c)
+unfolding counted newAtoms newRules depthAfter
+counted-at-most m next n (Atom g) h l = record { atoms = omega arith; rules = omega arith; depth = omega arith; deepest = omega arith }
+counted-at-most m next n (Rule g) h l = record { atoms = omega arith; rules = omega arith; depth = omega arith; deepest = omega arith }
+counted-at-most m next n Union h l = record { atoms = omega arith; rules = omega arith; depth = omega arith; deepest = omega arith }
+counted-at-most m next n (Relabel i j) h l = record { atoms = omega arith; rules = omega arith; depth = omega arith; deepest = omega arith }
+counted-at-most m next n (Connect k i j) h l = record { atoms = omega arith; rules = omega arith; depth = omega arith; deepest = omega arith }
+
+pub capped-same : (m : ℕ) (n : Counts) → AtMost m n → m ≤ countLimit → capped n ≡ n
+unfolding capped
+capped-same m n h l = same-counts _ _ (omega arith) (omega arith) (omega arith) (omega arith)
+
+-- ---- 9 to 11 keep the counts within the limits
+
+pub record Limited (n : Counts) : Type 0 where
+  pub atoms : n .atoms ≤ atomLimit
+  pub rules : n .rules ≤ ruleLimit
+  pub depth : n .depth ≤ depthLimit
+  pub deepest : n .deepest ≤ depthLimit
+
+pub none-limited : Limited noCounts
+unfolding noCounts
+none-limited = record { atoms = zero-le; rules = zero-le; depth = zero-le; deepest = zero-le }
+
+unrefused : (b : Bool) (f m : ℕ) → cond b (suc f) m ≡ 0 → (b ≡ false) × (m ≡ 0)
+unrefused true f m h = absurd (omega arith)
+unrefused false f m h = (refl, h)
+
+pub counted-limited : (n : Counts) (c : Command) → countFault n c ≡ 0 → Limited n → Limited (counted n c)
+unfolding countFault counted newAtoms newRules depthAfter
+counted-limited n (Atom g) f h =
+    let p = unrefused _ _ _ f in
+    let a = leb-false atomLimit (n .atoms) (p .0) in
+    let d = leb-false depthLimit (n .depth) (unrefused _ _ _ (p .1) .0) in
+    record { atoms = omega arith; rules = omega arith; depth = omega arith; deepest = omega arith }
+counted-limited n (Rule g) f h =
+    let p = unrefused _ _ _ f in
+    let a = leb-false ruleLimit (n .rules) (p .0) in
+    let d = leb-false depthLimit (n .depth) (unrefused _ _ _ (p .1) .0) in
+    record { atoms = omega arith; rules = omega arith; depth = omega arith; deepest = omega arith }
+counted-limited n Union f h = record { atoms = omega arith; rules = omega arith; depth = omega arith; deepest = omega arith }
+counted-limited n (Relabel i j) f h = record { atoms = omega arith; rules = omega arith; depth = omega arith; deepest = omega arith }
+counted-limited n (Connect k i j) f h = record { atoms = omega arith; rules = omega arith; depth = omega arith; deepest = omega arith }
+
+pub capped-limited : (n : Counts) → Limited n → capped n ≡ n
+unfolding capped
+capped-limited n h = same-counts _ _ (omega arith) (omega arith) (omega arith) (omega arith)
