@@ -28,7 +28,7 @@ use Rattle.entries.specs.Entries.{withValues, entriesOf, entered, Entere
 
 -- ---- pairs with values, place by place
 
-none : Entry
+pub none : Entry
 none = record { item = []; value = 0 }
 
 pub length-with : (xs : List Pair) (vs : List ℕ) → length (withValues xs vs) ≡ length xs
@@ -37,7 +37,7 @@ length-with [] vs = refl
 length-with (x ∷ xs) [] = ap suc (length-with xs [])
 length-with (x ∷ xs) (v ∷ vs) = ap suc (length-with xs vs)
 
-with-at : (xs : List Pair) (vs : List ℕ) (k : ℕ) → length vs ≡ length xs → k < length xs → getD (withValues xs vs) k none ≡ record { item = getD xs k []; value = getD vs k 0 }
+pub with-at : (xs : List Pair) (vs : List ℕ) (k : ℕ) → length vs ≡ length xs → k < length xs → getD (withValues xs vs) k none ≡ record { item = getD xs k []; value = getD vs k 0 }
 unfolding withValues
 with-at [] vs k e l = absurd (not-suc-le-zero l)
 with-at (x ∷ xs) [] k e l = absurd (omega arith)
@@ -86,8 +86,11 @@ module _ (carry : Carry) where
         let r : rank (E .order) entry (withValues xs vs) ≡ k = rank-with x v xs vs ∙ sym kr in
         let absent = insert-absent (E .order) (E .merge) none entry (withValues xs vs) (λ l q.
         let h : k < length xs = omega (arith, length-with xs vs) in
-        new (omega (arith, kr), sym (ap (λ (y : Entry). compareLists x (y .item)) (ap (λ (i : ℕ). getD (withValues xs vs) i none) r ∙ with-at xs vs k e h)
-        ∙ ap (λ (i : ℕ). compareLists x (getD xs i [])) kr) ∙ q)) in
+        new (
+          omega (arith, kr),
+          sym (ap (λ (y : Entry). compareLists x (y .item)) (ap (λ (i : ℕ). getD (withValues xs vs) i none) r ∙ with-at xs vs k e h)
+              ∙ ap (λ (i : ℕ). compareLists x (getD xs i [])) kr) ∙ q,
+        )) in
         absent ∙ ap (λ (i : ℕ). take i (withValues xs vs) ++ entry ∷ drop i (withValues xs vs)) r ∙ sym (with-more xs vs k x v e low)
 
     -- a pair that is there
@@ -106,7 +109,7 @@ module _ (carry : Carry) where
 
 -- ---- what putting a row and its value in leaves
 
-values-long : (carry : Carry) (p m : ℕ) (vals : List ℕ) → m ≤ p → Kept carry p m vals → length (valuesIn carry m vals) ≡ m
+pub values-long : (carry : Carry) (p m : ℕ) (vals : List ℕ) → m ≤ p → Kept carry p m vals → length (valuesIn carry m vals) ≡ m
 values-long Nothing p m vals l h = length-replicate m 0
 values-long First p m vals l h = length-take-le m vals (omega (arith, h .1))
 
@@ -150,9 +153,11 @@ module _ (carry : Carry) (w p m : ℕ) (x : Pair) (v : ℕ) (area index vals are
     indexed = λ l. absurd (omega arith);
     kept = λ l. absurd (omega arith);
     holds = λ l. absurd (omega arith);
-    full = λ l. (i .2,
-    rw (entered-new carry x v S (valuesIn carry m vals) as-long (rank compareLists x S) refl (i .3), length-with)
-    (simp (length-append, length-take, length-drop) (omega (arith, i .2, sorted-long h, rank-le compareLists x S))));
+    full = λ l. (
+      i .2,
+      rw (entered-new carry x v S (valuesIn carry m vals) as-long (rank compareLists x S) refl (i .3), length-with)
+          (simp (length-append, length-take, length-drop) (omega (arith, i .2, sorted-long h, rank-le compareLists x S))),
+    );
     same = λ l. (i .0, i .1, e);
   }
 

@@ -80,7 +80,8 @@ first-merged First p m k v x vals e h l g ex =
     let T : List ℕ = take m vals in
     let front : length T ≡ m = length-take-le m vals (omega (arith, h .1)) in
     let is : set vals k x ≡ set T k x ++ zeros (p - m) = ap (λ (t : List ℕ). set t k x) (h .0) ∙ set-append-left T (zeros (p - m)) k x (omega (arith, front)) in
-    let taken : take m (set vals k x) ≡ set T k x = ap (take m) is ∙ take-at (set T k x) (zeros (p - m)) m (length-set T k x ∙ front) in
-    ((is ∙ ap (λ (t : List ℕ). t ++ zeros (p - m)) (sym taken), length-set vals k x ∙ h .1),
-    taken ∙ set-split T k x (omega (arith, front))
-    ∙ ap₂ (λ (y : ℕ) (j : ℕ). take k T ++ y ∷ drop j T) (ex ∙ ap (min v) (sym (getD-take m vals k 0 l))) (sym (add-one k)))
+    let taken : take m (set vals k x) ≡ set T k x = ap (take m) is ∙ take-at (set T k x) (zeros (p - m)) m (length-set T k x ∙ front) in (
+      (is ∙ ap (λ (t : List ℕ). t ++ zeros (p - m)) (sym taken), length-set vals k x ∙ h .1),
+      taken ∙ set-split T k x (omega (arith, front))
+          ∙ ap₂ (λ (y : ℕ) (j : ℕ). take k T ++ y ∷ drop j T) (ex ∙ ap (min v) (sym (getD-take m vals k 0 l))) (sym (add-one k)),
+    )

@@ -28,11 +28,7 @@ pub fn stride(carry: Carry) -> usize
 fn lesser(a: u64, b: u64) -> u64
     ensures { λ r. ⌜ r ≡ min a b ⌝ }
 {
-    if a < b {
-        a
-    } else {
-        b
-    }
+    if a < b { a } else { b }
 }
 
 // The value of either of two interpretations.

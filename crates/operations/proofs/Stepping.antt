@@ -39,17 +39,17 @@ module _ {carry : Carry} {w p to : ℕ} {cands rest : List Entry} {m : ℕ} {ws�
   making-kept = subst (λ (n : ℕ). Kept carry p n vals) (let z : min m p ≡ m = omega arith in z) (h .kept)
 
 module _ {carry : Carry} {w p to : ℕ} {cands rest : List Entry} {x : Entry} {m : ℕ} {ws₀ ws index vals : List ℕ} (g : 2 ≤ w) (h : Making carry w p to cands (x ∷ rest) m ws₀ ws index vals) where
-  pub step-wide : (FitEntry w x → ⊥) → Stepped carry w p to cands rest x (p + 2) ws₀ ws index vals
+  pub step-wide : (FitEntry w x → ⊥) → Stepped carry w p to cands rest (x ∷ []) (p + 2) ws₀ ws index vals
   step-wide n = record {
     most = omega arith;
     same-length = h .as-long;
     made = λ l. absurd (omega arith);
-    wide = λ l. n;
+    wide = λ l f. n (f .0);
     scratch = h .frame;
     rows = padded-rows (h .indexed) g;
   }
 
-  pub step-over : p < m → FitEntry w x → Stepped carry w p to cands rest x m ws₀ ws index vals
+  pub step-over : p < m → FitEntry w x → Stepped carry w p to cands rest (x ∷ []) m ws₀ ws index vals
   step-over l f = record {
     most = omega (arith, h .bound);
     same-length = h .as-long;
@@ -63,7 +63,7 @@ module _ {carry : Carry} {w p to : ℕ} {cands rest : List Entry} {x : Entry} {m
       over = h .over;
       fit = λ a. h .fit (f, a);
     };
-    wide = λ k. absurd (omega (arith, h .bound));
+    wide = λ k a. absurd (omega (arith, h .bound));
     scratch = h .frame;
     rows = padded-rows (h .indexed) g;
   }
@@ -116,12 +116,12 @@ module _ {carry : Carry} {w p to : ℕ} {cands rest : List Entry} {x : Entry} {m
           fit = λ a. h .fit (f, a);
         }
 
-    pub step-in : Stepped carry w p to cands rest x r ws₀ ws' index' vals'
+    pub step-in : Stepped carry w p to cands rest (x ∷ []) r ws₀ ws' index' vals'
     step-in = record {
       most = omega (arith, e .bound);
       same-length = as-long;
       made = λ l. made (decLe r p);
-      wide = λ l. absurd (omega (arith, e .bound));
+      wide = λ l a. absurd (omega (arith, e .bound));
       scratch = scratch;
       rows = padded-rows (made (decLe r p) .indexed) g;
     }

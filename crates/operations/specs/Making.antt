@@ -1,6 +1,6 @@
 -- A table that a command makes entry by entry in the scratch area, by candidate entries. Assumes nothing.
 use mathlib.Core.Path.{_≡_}
-use mathlib.Core.List.{List, [], _∷_}
+use mathlib.Core.List.{List, [], _∷_, _++_}
 use Prim.Native.Nat.{ℕ, _+_, _*_, _≤_, _<_, min}
 use lib.ListN.{length}
 use Rattle.lists.specs.Lists.{All}
@@ -10,10 +10,10 @@ use Rattle.tables.specs.Definitions.{unitePairs}
 use Rattle.values.specs.Values.{Valued}
 use Rattle.candidates.specs.Candidates.{pairOf}
 use Rattle.rows.specs.Parts.{part, put}
-use Rattle.rows.specs.Rows.{Fit, Rows, Indexed}
+use Rattle.rows.specs.Rows.{Fit, rowsIn, Rows, Indexed}
 use Rattle.entries.specs.declared.Carry.{Carry}
-use Rattle.entries.specs.Carries.{Entry, entryAlgebra, Kept}
-use Rattle.entries.specs.Entries.{entriesOf}
+use Rattle.entries.specs.Carries.{Entry, entryAlgebra, valuesIn, Kept}
+use Rattle.entries.specs.Entries.{withValues, entriesOf}
 
 -- all candidates put in; the table of all candidates
 unfoldable pub enteredAll : Carry → List Entry → List Entry → List Entry
@@ -38,23 +38,31 @@ pub record Making (carry : Carry) (w p to : ℕ) (cands rest : List Entry) (m : 
   pub over : p < m → p < length (tableOfAll carry cands)
   pub fit : All (FitEntry w) rest → All (FitEntry w) cands
 
--- the answer of a step: the new count as in Making; p + 2 where the candidate does not fit
-pub record Stepped (carry : Carry) (w p to : ℕ) (cands rest : List Entry) (x : Entry) (r : ℕ) (ws₀ ws index vals : List ℕ) : Type 0 where
+-- the candidates xs are put in: the count then, as in Making; p + 2 where one of them does not fit
+pub record Stepped (carry : Carry) (w p to : ℕ) (cands rest xs : List Entry) (r : ℕ) (ws₀ ws index vals : List ℕ) : Type 0 where
   pub most : r ≤ p + 2
   pub same-length : length ws ≡ length ws₀
   pub made : r ≤ p + 1 → Making carry w p to cands rest r ws₀ ws index vals
-  pub wide : p + 1 < r → (FitEntry w x → ⊥)
+  pub wide : p + 1 < r → All (FitEntry w) xs → ⊥
   pub scratch : ws ≡ put to (p * w) ws₀ (part to (p * w) ws)
   pub rows : Rows w p p (part to (p * w) ws)
 
--- a table is being made, and x is the next candidate
-abbrev pub Next : Carry → ℕ → ℕ → ℕ → ℕ → Entry → List ℕ → List ℕ → List ℕ → Type 0
-Next carry w p to m x ws index vals = (cands : List Entry) × (rest : List Entry) × (ws₀ : List ℕ) × Making carry w p to cands (x ∷ rest) m ws₀ ws index vals
+-- a table is being made, and xs are the next candidates
+abbrev pub Next : Carry → ℕ → ℕ → ℕ → ℕ → List Entry → List ℕ → List ℕ → List ℕ → Type 0
+Next carry w p to m xs ws index vals = (cands : List Entry) × (rest : List Entry) × (ws₀ : List ℕ) × Making carry w p to cands (xs ++ rest) m ws₀ ws index vals
 
--- whatever table is being made, x is put in
-abbrev pub Steps : Carry → ℕ → ℕ → ℕ → ℕ → Entry → ℕ → List ℕ → List ℕ → List ℕ → List ℕ → List ℕ → List ℕ → Type 0
-Steps carry w p to m x r ws index vals ws' index' vals' =
-    (cands rest : List Entry) (ws₀ : List ℕ) → Making carry w p to cands (x ∷ rest) m ws₀ ws index vals → Stepped carry w p to cands rest x r ws₀ ws' index' vals'
+-- whatever table is being made, xs are put in
+abbrev pub Steps : Carry → ℕ → ℕ → ℕ → ℕ → List Entry → ℕ → List ℕ → List ℕ → List ℕ → List ℕ → List ℕ → List ℕ → Type 0
+Steps carry w p to m xs r ws index vals ws' index' vals' =
+    (cands rest : List Entry) (ws₀ : List ℕ) → Making carry w p to cands (xs ++ rest) m ws₀ ws index vals → Stepped carry w p to cands rest xs r ws₀ ws' index' vals'
+
+-- the entry of the row at word a, with a value
+abbrev pub entryAt : ℕ → ℕ → ℕ → List ℕ → Entry
+entryAt w a v ws = record { item = pairOf (part a w ws); value = v }
+
+-- the entries of the n rows of the area at word a, with their values
+abbrev pub entriesAt : Carry → ℕ → ℕ → ℕ → ℕ → List ℕ → List ℕ → List Entry
+entriesAt carry w p a n vals ws = withValues (rowsIn w n (part a (p * w) ws)) (valuesIn carry n vals)
 
 -- the pairs at words ra and rb united, with a value
 abbrev pub unitedAt : ℕ → ℕ → ℕ → ℕ → List ℕ → Entry

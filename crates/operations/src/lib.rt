@@ -1,13 +1,15 @@
 // One command on the tables of a workspace.
 use entries::Carry;
 ghost use mathlib.Core.Path.{_≡_};
-ghost use mathlib.Core.List.{List, [], _∷_, _++_};
+ghost use mathlib.Core.List.{List, [], _∷_, _++_, map};
 ghost use Prim.Native.Nat.{ℕ, _+_, _-_, _*_, _≤_, _<_, min};
 ghost use lib.ListN.{length, take, drop, getD};
 ghost use Rattle.candidates.specs.Candidates.{Readable};
 ghost use Rattle.rows.specs.Parts.{part, put};
-ghost use Rattle.entries.specs.Carries.{Keeps};
-ghost use Rattle.operations.specs.Making.{Next, Steps, unitedAt};
+ghost use Rattle.labels.specs.Labels.{labelCount};
+ghost use Rattle.rows.specs.Rows.{Rows};
+ghost use Rattle.entries.specs.Carries.{Keeps, Kept, entryAlgebra};
+ghost use Rattle.operations.specs.Making.{Next, Steps, unitedAt, entryAt, entriesAt};
 
 // The pairs at words ra and rb united with the value v, and put into the table that is being made at word `to`. The answer is the count then; p + 1
 // where there are more than p rows, p + 2 where the united pair does not fit.
@@ -28,8 +30,8 @@ pub fn unite_entry(
     requires { ⌜ (2 ≤ w) × (w ≤ 4096) × (p ≤ 1024) × (length (now row) ≡ w) ⌝ }
     requires { ⌜ (ra + w ≤ length (now ws)) × (rb + w ≤ length (now ws)) × (to + p * w ≤ length (now ws)) ⌝ }
     requires { ⌜ Readable (part ra w (now ws)) × Readable (part rb w (now ws)) × Keeps carry v ⌝ }
-    requires { ⌜ Next carry w p to m (unitedAt w ra rb v (now ws)) (now ws) (now index) (now vals) ⌝ }
-    ensures { λ r. ⌜ Steps carry w p to m (unitedAt w ra rb v (now (ws .entry))) r (now (ws .entry)) (now (index .entry)) (now (vals .entry)) (now (ws .exit)) (now (index .exit)) (now (vals .exit)) ⌝ }
+    requires { ⌜ Next carry w p to m (unitedAt w ra rb v (now ws) ∷ []) (now ws) (now index) (now vals) ⌝ }
+    ensures { λ r. ⌜ Steps carry w p to m (unitedAt w ra rb v (now (ws .entry)) ∷ []) r (now (ws .entry)) (now (index .entry)) (now (vals .entry)) (now (ws .exit)) (now (index .exit)) (now (vals .exit)) ⌝ }
 {
     let s = &ws[..];
     let k = candidates::unite_row(row, &s[ra..ra + w], &s[rb..rb + w]);
@@ -41,4 +43,42 @@ pub fn unite_entry(
     }
     let end = to + p * w;
     entries::insert_entry(&mut ws[to..end], index, vals, carry, w, p, m, row, v)
+}
+
+// The entry of the row at word ra with value va united with each of the n rows at word b, whose values are `others`. The answer is as unite_entry's.
+pub fn unite_with_all(
+    ws: &mut [u32],
+    row: &mut [u32],
+    index: &mut [u32],
+    vals: &mut [u64],
+    others: &[u64],
+    carry: Carry,
+    w: usize,
+    p: usize,
+    ra: usize,
+    va: u64,
+    b: usize,
+    n: usize,
+    to: usize,
+    m: usize,
+) -> usize
+    requires { ⌜ (2 ≤ w) × (w ≤ 4096) × (p ≤ 1024) × (length (now row) ≡ w) ⌝ }
+    requires { ⌜ (ra + w ≤ to) × (b + p * w ≤ to) × (to + p * w ≤ length (now ws)) ⌝ }
+    requires { ⌜ Readable (part ra w (now ws)) × Rows w p n (part b (p * w) (now ws)) × Kept carry p n (now others) ⌝ }
+    requires { ⌜ Next carry w p to m (map (entryAlgebra labelCount carry .united (entryAt w ra va (now ws))) (entriesAt carry w p b n (now others) (now ws))) (now ws) (now index) (now vals) ⌝ }
+    ensures { λ r. ⌜ Steps carry w p to m (map (entryAlgebra labelCount carry .united (entryAt w ra va (now (ws .entry)))) (entriesAt carry w p b n (now (others .entry)) (now (ws .entry)))) r (now (ws .entry)) (now (index .entry)) (now (vals .entry)) (now (ws .exit)) (now (index .exit)) (now (vals .exit)) ⌝ }
+{
+    let mut r = m;
+    let mut j = 0;
+    while j < n {
+        let rb = b + j * w;
+        let vb = entries::value_at(others, carry, p, n, j);
+        let v = entries::together(carry, va, vb);
+        r = unite_entry(ws, row, index, vals, carry, w, p, ra, rb, to, r, v);
+        if p + 1 < r {
+            return r;
+        }
+        j += 1;
+    }
+    r
 }

@@ -212,8 +212,8 @@ module _ {w p m : ℕ} {area index : List ℕ} (h : Indexed w p m area index) wh
       fit = fits';
       long = omega (arith, length-append named (drop (m + 1) index), named-long, length-drop (m + 1) index, h .long);
       places = rw index-taken (all-append (λ i. i < m + 1) (take k (take m index)) (m ∷ drop k (take m index))
-      (all-weaken (λ i. i < m) (λ i. i < m + 1) (λ i l. omega arith) (take k (take m index)) (all-take (λ i. i < m) k (take m index) (h .places)))
-      (omega arith, all-weaken (λ i. i < m) (λ i. i < m + 1) (λ i l. omega arith) (drop k (take m index)) (all-drop (λ i. i < m) k (take m index) (h .places))));
+          (all-weaken (λ i. i < m) (λ i. i < m + 1) (λ i l. omega arith) (take k (take m index)) (all-take (λ i. i < m) k (take m index) (h .places)))
+          (omega arith, all-weaken (λ i. i < m) (λ i. i < m + 1) (λ i l. omega arith) (drop k (take m index)) (all-drop (λ i. i < m) k (take m index) (h .places))));
       rising = rw sorted-more (subst (Rising compareLists) (rw kr (insert-absent compareLists second [] x (sortedOf w m area index) (λ l e. new (l, e)))) (rising-insert lists-lawful x (sortedOf w m area index) (h .rising)));
     }
 

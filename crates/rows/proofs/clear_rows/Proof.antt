@@ -35,15 +35,17 @@ within : (c : tie.In-loop Inv-loop μ-loop) → (c .before .loop .i - 1) * start
 within c =
     let s = start c in
     let h = s .pre .1 .0 in
-    omega (arith, row-within (c .before .loop .i - 1) (s .args .p) (s .args .w) (omega (arith, h .room)),
-    left-long (s .args .w) (s .args .p) (c .before .loop .i) (rows c) (c .before .loop .area) (h .fit) (omega (arith, count c, h .room)) (omega (arith, count c)) (c .before .loop .inv .2))
+    omega (
+      arith,
+      row-within (c .before .loop .i - 1) (s .args .p) (s .args .w) (omega (arith, h .room)),
+      left-long (s .args .w) (s .args .p) (c .before .loop .i) (rows c) (c .before .loop .area) (h .fit) (omega (arith, count c, h .room)) (omega (arith, count c)) (c .before .loop .inv .2),
+    )
 
 isRow : (c : tie.In-loop Inv-loop μ-loop) → IsRow (start c .args .w) (slot (start c .args .w) (c .before .loop .i - 1) (c .before .loop .area))
 isRow c =
     let s = start c in
     let h = s .pre .1 .0 in
     left-row (s .args .w) (s .args .p) (c .before .loop .i) (rows c) (c .before .loop .area) (h .fit) (omega (arith, count c, h .room)) (omega (arith, count c)) (c .before .loop .inv .2) (c .before .loop .i - 1) (omega (arith, h .room)) (s .pre .0)
-
 
 loop-holds : tie.Need-loop-holds Inv-loop μ-loop
 loop-holds c =

@@ -55,7 +55,6 @@ bounds c =
     (omega arith, omega arith, omega arith, omega arith)) w)
     (c .match .came)
 
-
 returns : tie.Need-returns Inv-loop μ-loop
 returns c =
     let s = c .before .before .before .before in

@@ -52,7 +52,6 @@ source c = let s = start c in source-is (s .args .w) (s .args .p) (s .args .m) (
 target : (c : tie.In-loop Inv-loop μ-loop) → IsRow (start c .args .w) (part (start c .args .to + c .before .loop .i * start c .args .w) (start c .args .w) (c .before .loop .ws))
 target c = let s = start c in target-row (s .args .w) (s .args .p) (s .args .m) (s .args .n) (s .args .to) (s .args .from) (s .args .ws .now) (s .args .index .now) (s .pre .1 .0) (s .pre .0 .0) (s .pre .1 .1 .0) (s .pre .1 .1 .1) (c .before .loop .i) (c .before .loop .ws) (c .loop-test .taken) (c .before .loop .inv .3)
 
-
 loop-holds : tie.Need-loop-holds Inv-loop μ-loop
 loop-holds c = let s = c .before .before .before in (omega arith, s .pre .0 .1, refl, written-none (s .args .w) (s .args .p) (s .args .m) (s .args .n) (s .args .to) (s .args .from) (s .args .ws .now) (s .args .index .now) (s .pre .1 .0) (s .pre .0 .0) (s .pre .1 .1 .0) (s .pre .1 .1 .1))
 
