@@ -1,23 +1,19 @@
 -- An entry put among entries: rows and values side by side. Assumes nothing.
 use mathlib.Core.Path.{_≡_, refl, sym, ap, ap₂, _∙_}
 use mathlib.Core.List.{List, [], _∷_, _++_}
-use Prim.Native.Nat.{ℕ, zero, suc, _+_, _-_, _≤_, _<_}
+use Prim.Native.Nat.{ℕ, zero, suc, _+_, _≤_, _<_}
 use native.Mathlib.Nat.{le-of-suc-le-suc, not-suc-le-zero}
 use native.Mathlib.Numerals.{add-one}
 use native.Mathlib.Omega.{arith}
 use lib.ListN.{length, take, drop, getD, length-append, length-take, length-drop, length-replicate}
 use lib.Seq.{length-take-le}
-use Rattle.lists.specs.declared.Order.{Order}
-use Rattle.lists.specs.declared.Order.the-variants.{Less, Same, More}
-use Rattle.lists.specs.Sorted.{byOrder, compareLists, rank, insert}
+use Rattle.lists.specs.Sorted.{byOrder, compareLists, rank}
 use Rattle.lists.proofs.Ranks.{rank-le, insert-there, insert-absent}
 use Rattle.tables.specs.Algebras.{Algebra}
 use Rattle.tables.specs.Definitions.{Pair, pairs}
-use Rattle.values.specs.Values.{Valued, valued}
+use Rattle.values.specs.Values.{valued}
 use Rattle.labels.specs.Labels.{labelCount}
-use Rattle.rows.specs.Parts.{zeros}
 use Rattle.rows.specs.Rows.{sortedOf, Indexed}
-use Rattle.rows.specs.declared.Placed.{Placed}
 use Rattle.rows.specs.declared.Placed.the-variants.{New, Old, Full}
 use Rattle.rows.specs.Inserted.{There, Inserted}
 use Rattle.rows.proofs.Indexing.{sorted-long}

@@ -1,6 +1,6 @@
 -- Values in words: one put in at a place, one merged at a place. Assumes nothing.
 use mathlib.Core.Path.{_≡_, refl, sym, ap, ap₂, _∙_}
-use mathlib.Core.List.{List, [], _∷_, _++_, append-assoc}
+use mathlib.Core.List.{List, _∷_, _++_}
 use Prim.Native.Nat.{ℕ, zero, suc, _+_, _-_, _≤_, _<_, min}
 use native.Mathlib.Numerals.{add-one}
 use native.Mathlib.Omega.{arith}
@@ -8,7 +8,7 @@ use lib.ListN.{length, take, drop, getD, set, length-append, length-take, length
 use lib.Seq.{length-take-le, take-at, getD-take, drop-append-add, set-getD, set-split, set-append-left}
 use borrow.Rule.Slice.PartMut.{putMid, midOf}
 use Rattle.rows.specs.Parts.{zeros}
-use Rattle.rows.proofs.Parts.{zeros-long, drop-zeros, zeros-append}
+use Rattle.rows.proofs.Parts.{zeros-long, drop-zeros}
 use Rattle.rows.proofs.Indexing.{pushed}
 use Rattle.entries.specs.declared.Carry.{Carry}
 use Rattle.entries.specs.declared.Carry.the-variants.{Nothing, First}

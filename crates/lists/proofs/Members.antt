@@ -5,6 +5,8 @@ use mathlib.Core.Bool.{Bool, true, false, cond, _&&_, _||_, true≢false, false�
 use mathlib.Core.List.{List, [], _∷_, _++_, map, List·Memᴰ, List·Memᴰ·head, List·Memᴰ·tail, List·Memᴰ·not-nil, List·Memᴰ·cases-cons, Memᴰ·cast, Memᴰ·append-left, Memᴰ·append-right, List·Memᴰ·append-cases, Memᴰ·map, Memᴰ·of-map}
 use mathlib.Core.List.{append-assoc, map-append}
 use Prim.Native.Nat.{ℕ, zero, suc, _+_, _*_, _<_}
+use native.Mathlib.Numerals.{add-one}
+use lib.Seq.{drop-cons}
 use native.Mathlib.Nat.{zero-mul, suc-mul, add-comm, not-suc-le-zero, le-of-suc-le-suc}
 use lib.Dec.{eqb}
 use lib.ListN.{length, take, drop, getD, length-append, length-map}
@@ -135,9 +137,18 @@ module _ {A : Type 0} where
   all-append P [] ys h k = k
   all-append P (x ∷ xs) ys h k = (h .0, all-append P xs ys (h .1) k)
 
+  pub all-parts : (P : A → Type 0) (xs ys : List A) → All P (xs ++ ys) → All P xs × All P ys
+  all-parts P [] ys h = (tt, h)
+  all-parts P (x ∷ xs) ys h = let r = all-parts P xs ys (h .1) in ((h .0, r .0), r .1)
+
 pub all-map : {A B : Type 0} (P : A → Type 0) (Q : B → Type 0) (f : A → B) → ((x : A) → P x → Q (f x)) → (xs : List A) → All P xs → All Q (map f xs)
 all-map P Q f g [] h = tt
 all-map P Q f g (x ∷ xs) h = (g x (h .0), all-map P Q f g xs (h .1))
+
+pub map-drop : {A B : Type 0} (f : A → B) (k : ℕ) (xs : List A) → map f (drop k xs) ≡ drop k (map f xs)
+map-drop f zero xs = refl
+map-drop f (suc k) [] = refl
+map-drop f (suc k) (x ∷ xs) = map-drop f k xs
 
 -- ---- products
 
@@ -175,6 +186,17 @@ module _ {A B C : Type 0} (f : A → B → C) where
   products-append [] ys zs = refl
   products-append (x ∷ xs) ys zs =
       ap (λ l. map (f x) zs ++ l) (products-append xs ys zs) ∙ sym (append-assoc (map (f x) zs) (products f xs zs) (products f ys zs))
+
+  -- what is left of the first list at i, with the products of the next element in front
+  pub products-at : (d : A) (xs : List A) (ys : List B) (i : ℕ) → i < length xs → products f (drop i xs) ys ≡ map (f (getD xs i d)) ys ++ products f (drop (i + 1) xs) ys
+  unfolding products
+  products-at d xs ys i l = rw (add-one i, drop-cons xs i d l)
+
+  pub all-products : (P : C → Type 0) (d : A) (xs : List A) (ys : List B) (i : ℕ) → All P (products f xs ys) → i < length xs → All P (map (f (getD xs i d)) ys)
+  unfolding products
+  all-products P d [] ys i h l = absurd (not-suc-le-zero l)
+  all-products P d (x ∷ xs) ys zero h l = all-parts P (map (f x) ys) (products f xs ys) h .0
+  all-products P d (x ∷ xs) ys (suc i) h l = all-products P d xs ys i (all-parts P (map (f x) ys) (products f xs ys) h .1) (le-of-suc-le-suc l)
 
 -- the products of two mapped lists are the mapped products
 module _ {P Q D A B C : Type 0} (F : P → A) (G : Q → B) (J : A → B → C) (J′ : P → Q → D) (H : D → C) where

@@ -1,18 +1,17 @@
 -- One candidate put into a table that is being made: it does not fit, the table is over already, or it goes in. Assumes nothing.
-use mathlib.Core.Path.{_≡_, refl, sym, ap, ap₂, _∙_, subst}
-use mathlib.Core.List.{List, [], _∷_, _++_}
-use Prim.Native.Nat.{ℕ, zero, suc, _+_, _-_, _*_, _≤_, _<_, min}
+use mathlib.Core.Path.{_≡_, refl, sym, ap, _∙_, subst}
+use mathlib.Core.List.{List, [], _∷_}
+use Prim.Native.Nat.{ℕ, _+_, _*_, _≤_, _<_, min}
 use native.Mathlib.Decide.{decLe}
 use native.Mathlib.Omega.{arith}
 use lib.ListN.{length}
-use Rattle.lists.specs.Lists.{All}
 use Rattle.lists.specs.Sorted.{insertAll}
 use Rattle.lists.proofs.Canon.{length-insertAll}
 use Rattle.labels.specs.Labels.{labelCount}
 use Rattle.tables.specs.Definitions.{Pair}
 use Rattle.candidates.specs.Candidates.{Readable, Made}
 use Rattle.rows.specs.Parts.{part, put}
-use Rattle.rows.specs.Rows.{Fit, Rows, Indexed}
+use Rattle.rows.specs.Rows.{Fit, Indexed}
 use Rattle.rows.proofs.Parts.{part-put, put-put, put-long, part-long}
 use Rattle.rows.proofs.Single.{read-fits}
 use Rattle.rows.proofs.Indexing.{padded-rows}

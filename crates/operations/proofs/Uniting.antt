@@ -1,19 +1,18 @@
 -- One entry united with each entry of a table: the candidates in their order, as the words give them. Assumes nothing.
 use mathlib.Core.Path.{_≡_, refl, sym, ap, ap₂, _∙_, subst}
-use mathlib.Core.List.{List, [], _∷_, _++_, map}
-use Prim.Native.Nat.{ℕ, zero, suc, _+_, _-_, _*_, _≤_, _<_}
+use mathlib.Core.List.{List, [], _∷_, _++_, map, append-assoc}
+use Prim.Native.Nat.{ℕ, _+_, _*_, _≤_, _<_}
 use native.Mathlib.Numerals.{add-one}
 use native.Mathlib.Omega.{arith}
-use lib.ListN.{length, take, drop, getD, length-map, drop-of-length-le}
+use lib.ListN.{length, drop, getD, drop-of-length-le}
 use lib.Seq.{drop-cons}
-use Rattle.lists.specs.Lists.{All}
-use Rattle.lists.proofs.Members.{all-drop, all-get}
+use Rattle.lists.specs.Lists.{All, products}
+use Rattle.lists.proofs.Members.{all-drop, all-get, map-drop, products-at, all-products}
 use Rattle.labels.specs.Labels.{labelCount}
-use Rattle.tables.specs.Algebras.{Algebra}
 use Rattle.tables.specs.Definitions.{Pair, pairs, unitePairs}
-use Rattle.values.specs.Values.{Valued, valued}
+use Rattle.values.specs.Values.{valued}
 use Rattle.candidates.specs.Candidates.{pairOf, Readable}
-use Rattle.rows.specs.Parts.{part, put}
+use Rattle.rows.specs.Parts.{part}
 use Rattle.rows.specs.Rows.{Fit, rowsIn, Rows, slot}
 use Rattle.rows.proofs.Parts.{part-low, part-part}
 use Rattle.rows.proofs.Tables.{row-within, length-rowsIn, rowsIn-at, slot-at}
@@ -22,9 +21,8 @@ use Rattle.rows.proofs.Indexing.{padded-rows}
 use Rattle.entries.specs.declared.Carry.{Carry}
 use Rattle.entries.specs.declared.Carry.the-variants.{Nothing, First}
 use Rattle.entries.specs.Carries.{carriedBy, Keeps, valuesIn, Kept, Entry, entryAlgebra}
-use Rattle.entries.specs.Entries.{withValues}
 use Rattle.entries.proofs.Entering.{none, length-with, with-at, values-long}
-use Rattle.operations.specs.Making.{FitEntry, Making, Stepped, Next, entryAt, entriesAt, unitedAt}
+use Rattle.operations.specs.Making.{FitEntry, Making, Stepped, entryAt, entriesAt, unitedAt}
 
 -- what lies below the table that is being made stays
 pub same-below : {carry : Carry} {w p to : ℕ} {cands rest rest′ : List Entry} {m r : ℕ} {ws₀ wsₛ ws indexₛ index valsₛ vals : List ℕ}
@@ -34,57 +32,87 @@ same-below {w} {p} {to} {ws₀} {wsₛ} {ws} h g a k l e =
     ap (part a k) (g .frame) ∙ part-low a k to (p * w) ws₀ (part to (p * w) ws) l e
     ∙ sym (ap (part a k) (h .frame) ∙ part-low a k to (p * w) ws₀ (part to (p * w) wsₛ) l e)
 
-module _ (carry : Carry) (w p ra va b n to : ℕ) (others wsₛ : List ℕ) (within : b + p * w ≤ length wsₛ) (t : Rows w p n (part b (p * w) wsₛ)) (kept : Kept carry p n others) where
-  abbrev pub bs : List Entry
+-- the n entries of the area at word b
+module _ (carry : Carry) (w p b n : ℕ) (others wsₛ : List ℕ) (within : b + p * w ≤ length wsₛ) (t : Rows w p n (part b (p * w) wsₛ)) (kept : Kept carry p n others) where
+  abbrev area : List ℕ
+  area = part b (p * w) wsₛ
+
+  abbrev bs : List Entry
   bs = entriesAt carry w p b n others wsₛ
 
-  abbrev pub unite : Entry → Entry
-  unite = entryAlgebra labelCount carry .united (entryAt w ra va wsₛ)
+  entries-long : length bs ≡ n
+  entries-long = length-with (rowsIn w n area) (valuesIn carry n others) ∙ length-rowsIn w n area
 
-  bs-long : length bs ≡ n
-  bs-long = length-with (rowsIn w n (part b (p * w) wsₛ)) (valuesIn carry n others) ∙ length-rowsIn w n (part b (p * w) wsₛ)
+  row-of : (j : ℕ) → j < n → slot w j area ≡ part (b + j * w) w wsₛ
+  row-of j l = let z = row-within j p w (omega (arith, t .room)) in part-part b (p * w) (j * w) w wsₛ (omega arith) within
 
   pub readable-row : (j : ℕ) → j < n → Readable (part (b + j * w) w wsₛ)
   readable-row j l =
-      let xs : List Pair = rowsIn w n (part b (p * w) wsₛ) in
-      let k = length-rowsIn w n (part b (p * w) wsₛ) in
-      let z = row-within j p w (omega (arith, t .room)) in
-      let e = sym (slot-at w p xs j (t .fit) (omega (arith, k, t .room)) (omega (arith, k))) ∙ ap (slot w j) (sym (t .words)) ∙ part-part b (p * w) (j * w) w wsₛ (omega arith) within in
+      let xs : List Pair = rowsIn w n area in
+      let k = length-rowsIn w n area in
+      let e = sym (slot-at w p xs j (t .fit) (omega (arith, k, t .room)) (omega (arith, k))) ∙ ap (slot w j) (sym (t .words)) ∙ row-of j l in
       subst Readable e (row-readable w (getD xs j []) (all-get (Fit w) [] xs j (t .fit) (omega (arith, k))))
 
-  -- the j-th candidate, as the words give it
-  module _ (j : ℕ) (l : j < n) (v : ℕ) (ev : v ≡ carriedBy carry .together va (getD (valuesIn carry n others) j 0)) (ws : List ℕ)
-      (ea : part ra w ws ≡ part ra w wsₛ) (eb : part (b + j * w) w ws ≡ part (b + j * w) w wsₛ) where
-    abbrev x : Entry
-    x = unitedAt w ra (b + j * w) v ws
+  -- the j-th one, where its row is as it was
+  pub entry-at : (j : ℕ) → j < n → (v : ℕ) → v ≡ getD (valuesIn carry n others) j 0 → (ws : List ℕ) → part (b + j * w) w ws ≡ part (b + j * w) w wsₛ → getD bs j none ≡ entryAt w (b + j * w) v ws
+  entry-at j l v ev ws e =
+      let k = length-rowsIn w n area in
+      with-at (rowsIn w n area) (valuesIn carry n others) j (values-long carry p n others (t .room) kept ∙ sym k) (omega (arith, k))
+      ∙ (λ i. record { item = (rowsIn-at w n area j l ∙ ap pairOf (row-of j l ∙ sym e)) i; value = sym ev i })
 
-    row-is : pairOf (part (b + j * w) w wsₛ) ≡ getD (rowsIn w n (part b (p * w) wsₛ)) j []
-    row-is =
-        let z = row-within j p w (omega (arith, t .room)) in
-        ap pairOf (sym (part-part b (p * w) (j * w) w wsₛ (omega arith) within)) ∙ sym (rowsIn-at w n (part b (p * w) wsₛ) j l)
+  pub entries-from : (j : ℕ) → j < n → drop j bs ≡ getD bs j none ∷ drop (j + 1) bs
+  entries-from j l = rw (add-one j) (drop-cons bs j none (omega (arith, entries-long)))
 
-    pub candidate : unite (getD bs j none) ≡ x
-    unfolding entryAlgebra valued pairs
-    candidate =
-        let e = with-at (rowsIn w n (part b (p * w) wsₛ)) (valuesIn carry n others) j (values-long carry p n others (t .room) kept ∙ sym (length-rowsIn w n (part b (p * w) wsₛ))) (omega (arith, length-rowsIn w n (part b (p * w) wsₛ))) in
-        ap unite e
-        ∙ (λ i. record { item = unitePairs (pairOf (sym ea i)) ((sym row-is ∙ ap pairOf (sym eb)) i); value = sym ev i })
+  pub none-left : (j : ℕ) → j ≤ n → (j < n → ⊥) → drop j bs ≡ []
+  none-left j l g = drop-of-length-le bs {i = j} (omega (arith, entries-long))
 
-    pub next-is : map unite (drop j bs) ≡ x ∷ map unite (drop (j + 1) bs)
-    next-is =
-        ap (map unite) (drop-cons bs j none (omega (arith, bs-long))) ∙ ap₂ {C = List Entry} (λ y u. y ∷ map unite (drop u bs)) candidate (sym (add-one j))
+  -- one entry with each of them
+  module _ (ra va : ℕ) where
+    abbrev unite : Entry → Entry
+    unite = entryAlgebra labelCount carry .united (entryAt w ra va wsₛ)
 
-    -- where all candidates fit, so does this one
-    pub fit-next : All (FitEntry w) (map unite bs) → FitEntry w x
-    fit-next a = subst (All (FitEntry w)) next-is (subst (All (FitEntry w)) (dropped j bs) (all-drop (FitEntry w) j (map unite bs) a)) .0
-      where
-        dropped : (k : ℕ) (ys : List Entry) → drop k (map unite ys) ≡ map unite (drop k ys)
-        dropped zero ys = refl
-        dropped (suc k) [] = refl
-        dropped (suc k) (y ∷ ys) = dropped k ys
+    module _ (j : ℕ) (l : j < n) (v : ℕ) (ev : v ≡ carriedBy carry .together va (getD (valuesIn carry n others) j 0)) (ws : List ℕ)
+        (ea : part ra w ws ≡ part ra w wsₛ) (eb : part (b + j * w) w ws ≡ part (b + j * w) w wsₛ) where
+      candidate : unite (getD bs j none) ≡ unitedAt w ra (b + j * w) v ws
+      unfolding entryAlgebra valued pairs
+      candidate =
+          ap unite (entry-at j l (getD (valuesIn carry n others) j 0) refl ws eb)
+          ∙ (λ i. record { item = unitePairs (pairOf (sym ea i)) (pairOf (part (b + j * w) w ws)); value = sym ev i })
 
-  pub none-left : drop n bs ≡ []
-  none-left = drop-of-length-le bs {i = n} (omega (arith, bs-long))
+      pub next-is : map unite (drop j bs) ≡ unitedAt w ra (b + j * w) v ws ∷ map unite (drop (j + 1) bs)
+      next-is = ap (map unite) (entries-from j l) ∙ ap (λ (y : Entry). y ∷ map unite (drop (j + 1) bs)) candidate
+
+      -- where all candidates fit, so does this one
+      pub fit-next : All (FitEntry w) (map unite bs) → FitEntry w (unitedAt w ra (b + j * w) v ws)
+      fit-next a = subst (All (FitEntry w)) (sym (map-drop unite j bs) ∙ next-is) (all-drop (FitEntry w) j (map unite bs) a) .0
+
+-- the na entries of one table with each of the others, bs, which are as they were
+module _ (carry : Carry) (w p a na : ℕ) (left wsₛ : List ℕ) (within : a + p * w ≤ length wsₛ) (t : Rows w p na (part a (p * w) wsₛ)) (kept : Kept carry p na left)
+    (bs bs′ : List Entry) (same : bs′ ≡ bs) (i : ℕ) (l : i < na) (va : ℕ) (ev : va ≡ getD (valuesIn carry na left) i 0) (ws : List ℕ) (ea : part (a + i * w) w ws ≡ part (a + i * w) w wsₛ) where
+  abbrev xs : List Entry
+  xs = entriesAt carry w p a na left wsₛ
+
+  abbrev united : Entry → Entry → Entry
+  united = entryAlgebra labelCount carry .united
+
+  here : getD xs i none ≡ entryAt w (a + i * w) va ws
+  here = entry-at carry w p a na left wsₛ within t kept i l va ev ws ea
+
+  within-as : i < length xs
+  within-as = omega (arith, entries-long carry w p a na left wsₛ within t kept)
+
+  pub products-next : (rest : List Entry) → products united (drop i xs) bs ++ rest ≡ map (united (entryAt w (a + i * w) va ws)) bs′ ++ (products united (drop (i + 1) xs) bs ++ rest)
+  products-next rest =
+      ap (λ (ys : List Entry). ys ++ rest) (products-at united none xs bs i within-as)
+      ∙ append-assoc (map (united (getD xs i none)) bs) (products united (drop (i + 1) xs) bs) rest
+      ∙ ap₂ {C = List Entry} (λ x ys. map (united x) ys ++ (products united (drop (i + 1) xs) bs ++ rest)) here (sym same)
+
+  pub fit-row : All (FitEntry w) (products united xs bs) → All (FitEntry w) (map (united (entryAt w (a + i * w) va ws)) bs′)
+  fit-row h = rw (same, sym here) (all-products united (FitEntry w) none xs bs i h within-as)
+
+pub no-products : (f : Entry → Entry → Entry) (xs ys : List Entry) → xs ≡ [] → products f xs ys ≡ []
+unfolding products
+no-products f xs ys e = ap (λ (l : List Entry). products f l ys) e
 
 -- a table all of whose next candidates are in
 pub stepped : {carry : Carry} {w p to : ℕ} {cands rest xs : List Entry} {r : ℕ} {ws₀ ws index vals : List ℕ} → 2 ≤ w → Making carry w p to cands rest r ws₀ ws index vals → Stepped carry w p to cands rest xs r ws₀ ws index vals

@@ -1,13 +1,12 @@
 -- A table that a command makes entry by entry in the scratch area, by candidate entries. Assumes nothing.
 use mathlib.Core.Path.{_≡_}
-use mathlib.Core.List.{List, [], _∷_, _++_}
+use mathlib.Core.List.{List, _++_}
 use Prim.Native.Nat.{ℕ, _+_, _*_, _≤_, _<_, min}
 use lib.ListN.{length}
 use Rattle.lists.specs.Lists.{All}
 use Rattle.lists.specs.Sorted.{insertAll, canon}
 use Rattle.labels.specs.Labels.{labelCount}
 use Rattle.tables.specs.Definitions.{unitePairs}
-use Rattle.values.specs.Values.{Valued}
 use Rattle.candidates.specs.Candidates.{pairOf}
 use Rattle.rows.specs.Parts.{part, put}
 use Rattle.rows.specs.Rows.{Fit, rowsIn, Rows, Indexed}

@@ -1,11 +1,12 @@
 // One command on the tables of a workspace.
 use entries::Carry;
 ghost use mathlib.Core.Path.{_≡_};
-ghost use mathlib.Core.List.{List, [], _∷_, _++_, map};
-ghost use Prim.Native.Nat.{ℕ, _+_, _-_, _*_, _≤_, _<_, min};
-ghost use lib.ListN.{length, take, drop, getD};
+ghost use mathlib.Core.List.{[], _∷_, map};
+ghost use Prim.Native.Nat.{_+_, _-_, _*_, _≤_, _<_};
+ghost use lib.ListN.{length};
 ghost use Rattle.candidates.specs.Candidates.{Readable};
 ghost use Rattle.rows.specs.Parts.{part, put};
+ghost use Rattle.lists.specs.Lists.{products};
 ghost use Rattle.labels.specs.Labels.{labelCount};
 ghost use Rattle.rows.specs.Rows.{Rows};
 ghost use Rattle.entries.specs.Carries.{Keeps, Kept, entryAlgebra};
@@ -79,6 +80,59 @@ pub fn unite_with_all(
             return r;
         }
         j += 1;
+    }
+    r
+}
+
+// Each of the na entries at word a, whose values are `left`, united with each of the nb entries at word b, whose values are `right`. The answer is as
+// unite_entry's.
+pub fn unite_all(
+    ws: &mut [u32],
+    row: &mut [u32],
+    index: &mut [u32],
+    vals: &mut [u64],
+    left: &[u64],
+    right: &[u64],
+    carry: Carry,
+    w: usize,
+    p: usize,
+    a: usize,
+    na: usize,
+    b: usize,
+    nb: usize,
+    to: usize,
+) -> usize
+    requires { ⌜ (2 ≤ w) × (w ≤ 4096) × (p ≤ 1024) × (length (now row) ≡ w) ⌝ }
+    requires { ⌜ (a + p * w ≤ to) × (b + p * w ≤ to) × (to + p * w ≤ length (now ws)) ⌝ }
+    requires { ⌜ Rows w p na (part a (p * w) (now ws)) × Rows w p nb (part b (p * w) (now ws)) × Kept carry p na (now left) × Kept carry p nb (now right) ⌝ }
+    requires { ⌜ Next carry w p to 0 (products (entryAlgebra labelCount carry .united) (entriesAt carry w p a na (now left) (now ws)) (entriesAt carry w p b nb (now right) (now ws))) (now ws) (now index) (now vals) ⌝ }
+    ensures { λ r. ⌜ Steps carry w p to 0 (products (entryAlgebra labelCount carry .united) (entriesAt carry w p a na (now (left .entry)) (now (ws .entry))) (entriesAt carry w p b nb (now (right .entry)) (now (ws .entry)))) r (now (ws .entry)) (now (index .entry)) (now (vals .entry)) (now (ws .exit)) (now (index .exit)) (now (vals .exit)) ⌝ }
+{
+    let mut r = 0;
+    let mut i = 0;
+    while i < na {
+        let ra = a + i * w;
+        let va = entries::value_at(left, carry, p, na, i);
+        r = unite_with_all(
+            ws,
+            row,
+            index,
+            vals,
+            right,
+            carry,
+            w,
+            p,
+            ra,
+            va,
+            b,
+            nb,
+            to,
+            r,
+        );
+        if p + 1 < r {
+            return r;
+        }
+        i += 1;
     }
     r
 }

@@ -1,28 +1,26 @@
 -- A table that is being made: what its index names, and one row more. Assumes nothing.
 use mathlib.Core.Path.{_≡_, refl, sym, ap, ap₂, _∙_, subst}
-use mathlib.Core.List.{List, [], _∷_, _++_, map, List·Memᴰ, List·Memᴰ·head, List·Memᴰ·tail, append-assoc, map-append}
-use Prim.Native.Nat.{ℕ, zero, suc, _+_, _-_, _*_, _≤_, _<_, suc-le-suc, zero-le}
-use native.Mathlib.Nat.{le-of-suc-le-suc, not-suc-le-zero, le-trans}
-use native.Mathlib.Numerals.{add-one}
+use mathlib.Core.List.{List, [], _∷_, _++_, map, append-assoc, map-append}
+use Prim.Native.Nat.{ℕ, zero, suc, _+_, _-_, _*_, _≤_, _<_}
+use native.Mathlib.Nat.{le-of-suc-le-suc, not-suc-le-zero}
 use native.Mathlib.Omega.{arith}
 use lib.ListN.{length, take, drop, getD, length-append, length-take, length-drop, length-map, drop-of-length-le}
 use lib.Seq.{take-length, length-take-le, take-at, drop-at, take-take, take-add, getD-take}
 use borrow.Rule.Slice.PartMut.{putMid, midOf, post-is}
 use Rattle.lists.specs.declared.Order.the-variants.{Same}
 use Rattle.lists.specs.Lists.{All}
-use Rattle.lists.specs.Sorted.{compareLists, second, rank, insert, Rising}
-use Rattle.lists.proofs.Members.{all-append, all-get, all-take, all-drop}
+use Rattle.lists.specs.Sorted.{compareLists, second, rank, Rising}
+use Rattle.lists.proofs.Members.{all-append, all-get, all-take, all-drop, map-drop}
 use Rattle.lists.proofs.Comparisons.{lists-lawful}
 use Rattle.lists.proofs.Canon.{rising-insert}
 use Rattle.lists.proofs.Ranks.{rank-le, insert-absent}
 use Rattle.tables.specs.Definitions.{Pair}
 use Rattle.candidates.specs.Candidates.{pairOf, Readable}
-use Rattle.rows.specs.Parts.{part, put, zeros}
+use Rattle.rows.specs.Parts.{put}
 use Rattle.rows.specs.Rows.{rowOf, Fit, tableOf, IsRow, Rows, slot, sortedOf, Indexed}
 use Rattle.rows.specs.declared.Placed.the-variants.{New}
 use Rattle.rows.specs.Inserted.{There, Inserted}
-use Rattle.rows.proofs.Parts.{part-put, part-long}
-use Rattle.rows.proofs.Single.{length-row, pair-row, row-readable}
+use Rattle.rows.proofs.Single.{pair-row, row-readable}
 use Rattle.rows.proofs.Tables.{row-within, length-table, slot-at, slot-row, table-put, rows-all}
 
 -- ---- maps over lists
@@ -31,11 +29,6 @@ map-take : {A B : Type 0} (f : A → B) (k : ℕ) (xs : List A) → map f (take 
 map-take f zero xs = refl
 map-take f (suc k) [] = refl
 map-take {A} {B} f (suc k) (x ∷ xs) = ap (λ (t : List B). f x ∷ t) (map-take f k xs)
-
-map-drop : {A B : Type 0} (f : A → B) (k : ℕ) (xs : List A) → map f (drop k xs) ≡ drop k (map f xs)
-map-drop f zero xs = refl
-map-drop f (suc k) [] = refl
-map-drop f (suc k) (x ∷ xs) = map-drop f k xs
 
 map-all : {A B : Type 0} (f g : A → B) (P : A → Type 0) → ((x : A) → P x → f x ≡ g x) → (xs : List A) → All P xs → map f xs ≡ map g xs
 map-all f g P h [] a = refl

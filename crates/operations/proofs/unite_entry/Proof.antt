@@ -1,15 +1,11 @@
 -- `operations::unite_entry`: the candidate is made, then put in.
-use mathlib.Core.Path.{_≡_, refl, sym, _∙_}
-use mathlib.Core.List.{List}
-use Prim.Native.Nat.{ℕ, _+_, _-_, _*_, _≤_, _<_}
-use lib.ListN.{length, getD}
+use mathlib.Core.Path.{_≡_, refl, _∙_}
+use Prim.Native.Nat.{ℕ, _+_, _-_, _*_, _≤_}
+use lib.ListN.{length}
 use Rattle.tables.specs.Definitions.{unitePairs}
-use Rattle.candidates.specs.Candidates.{pairOf, Readable, Made}
+use Rattle.candidates.specs.Candidates.{pairOf, Made}
 use Rattle.rows.specs.Parts.{part, put}
-use Rattle.rows.specs.Rows.{Fit, Indexed}
 use Rattle.rows.proofs.Parts.{part-long}
-use Rattle.rows.proofs.Single.{read-fits}
-use Rattle.entries.specs.Carries.{Kept}
 use Rattle.operations.proofs.Stepping.{making-indexed, making-kept, made-unfit, made-readable, made-fit, step-wide, step-over, step-in}
 use borrow.Author.Needs.{needs}
 use Rattle.operations.proofs.unite_entry.Statement.{statement}

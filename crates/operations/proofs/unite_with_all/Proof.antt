@@ -1,16 +1,15 @@
 -- `operations::unite_with_all`: the candidates from j on are left.
 use mathlib.Core.Path.{_≡_, refl, sym, ap, _∙_, subst}
-use mathlib.Core.List.{List, [], _∷_, _++_, map}
-use Prim.Native.Nat.{ℕ, _+_, _-_, _*_, _≤_, _<_}
+use mathlib.Core.List.{List, _∷_, _++_, map}
+use Prim.Native.Nat.{ℕ, _+_, _-_, _*_, _≤_}
 use lib.ListN.{length, drop, getD}
 use Rattle.labels.specs.Labels.{labelCount}
 use Rattle.candidates.specs.Candidates.{Readable}
 use Rattle.rows.specs.Parts.{part}
 use Rattle.rows.proofs.Tables.{row-within}
-use Rattle.rows.proofs.Parts.{part-part}
 use Rattle.entries.specs.Carries.{Keeps, Entry, entryAlgebra, valuesIn, carriedBy}
 use Rattle.operations.specs.Making.{Making, entryAt, entriesAt, unitedAt}
-use Rattle.operations.proofs.Uniting.{bs, unite, readable-row, same-below, next-is, fit-next, none-left, stepped, stepped-wide, keeps-together}
+use Rattle.operations.proofs.Uniting.{readable-row, same-below, next-is, fit-next, none-left, stepped, stepped-wide, keeps-together}
 use Rattle.operations.proofs.unite_with_all.Statement.{statement}
 use Rattle.operations.proofs.unite_with_all.Tie as tie
 use borrow.Author.Needs.{needs}
@@ -27,6 +26,13 @@ abbrev μ-loop : tie.MeasureT-loop
 
 abbrev start : tie.In-loop Inv-loop μ-loop → tie.Start Inv-loop μ-loop
 start c = c .before .before .before .before .before .before .before
+
+-- the entries that are united with the one, and how
+abbrev those : tie.Start Inv-loop μ-loop → List Entry
+those s = entriesAt (s .args .carry) (s .args .w) (s .args .p) (s .args .b) (s .args .n) (s .args .others .now) (s .args .ws .now)
+
+abbrev unite : tie.Start Inv-loop μ-loop → Entry → Entry
+unite s = entryAlgebra labelCount (s .args .carry) .united (entryAt (s .args .w) (s .args .ra) (s .args .va) (s .args .ws .now))
 
 below : (s : tie.Start Inv-loop μ-loop) → s .args .b + s .args .p * s .args .w ≤ length (s .args .ws .now)
 below s = omega (arith, s .pre .1 .0 .1, s .pre .1 .0 .2)
@@ -46,15 +52,15 @@ module _ (c : tie.In-loop Inv-loop μ-loop) where
   -- the next candidate, for a value v
   next : (v : ℕ) → v ≡ carriedBy (start c .args .carry) .together (start c .args .va) (getD (valuesIn (start c .args .carry) (start c .args .n) (start c .args .others .now)) (c .before .loop .j) 0)
       → (cands rest : List Entry) (v₀ : List ℕ) → Making (start c .args .carry) (start c .args .w) (start c .args .p) (start c .args .to) cands
-      (map (entryAlgebra labelCount (start c .args .carry) .united (entryAt (start c .args .w) (start c .args .ra) (start c .args .va) (start c .args .ws .now))) (entriesAt (start c .args .carry) (start c .args .w) (start c .args .p) (start c .args .b) (start c .args .n) (start c .args .others .now) (start c .args .ws .now)) ++ rest)
+      (map (unite (start c)) (those (start c)) ++ rest)
       (start c .args .m) v₀ (start c .args .ws .now) (start c .args .index .now) (start c .args .vals .now)
       → Making (start c .args .carry) (start c .args .w) (start c .args .p) (start c .args .to) cands
-      ((unitedAt (start c .args .w) (start c .args .ra) (start c .args .b + c .before .loop .j * start c .args .w) v (c .before .loop .ws) ∷ map (entryAlgebra labelCount (start c .args .carry) .united (entryAt (start c .args .w) (start c .args .ra) (start c .args .va) (start c .args .ws .now))) (drop (c .before .loop .j + 1) (entriesAt (start c .args .carry) (start c .args .w) (start c .args .p) (start c .args .b) (start c .args .n) (start c .args .others .now) (start c .args .ws .now)))) ++ rest)
+      ((unitedAt (start c .args .w) (start c .args .ra) (start c .args .b + c .before .loop .j * start c .args .w) v (c .before .loop .ws) ∷ map (unite (start c)) (drop (c .before .loop .j + 1) (those (start c)))) ++ rest)
       (c .before .loop .r) v₀ (c .before .loop .ws) (c .before .loop .index) (c .before .loop .vals)
   next v ev cands rest v₀ h =
       let s = start c in
       subst (λ (xs : List Entry). Making (s .args .carry) (s .args .w) (s .args .p) (s .args .to) cands (xs ++ rest) (c .before .loop .r) v₀ (c .before .loop .ws) (c .before .loop .index) (c .before .loop .vals))
-      (next-is (s .args .carry) (s .args .w) (s .args .p) (s .args .ra) (s .args .va) (s .args .b) (s .args .n) (s .args .to) (s .args .others .now) (s .args .ws .now) (below s) (s .pre .1 .1 .0 .1) (s .pre .1 .1 .0 .2) (c .before .loop .j) (c .loop-test .taken) v ev (c .before .loop .ws) (same (s .args .ra) (s .args .w) (s .pre .1 .0 .0)) (same (s .args .b + c .before .loop .j * s .args .w) (s .args .w) (row-below c)))
+      (next-is (s .args .carry) (s .args .w) (s .args .p) (s .args .b) (s .args .n) (s .args .others .now) (s .args .ws .now) (below s) (s .pre .1 .1 .0 .1) (s .pre .1 .1 .0 .2) (s .args .ra) (s .args .va) (c .before .loop .j) (c .loop-test .taken) v ev (c .before .loop .ws) (same (s .args .ra) (s .args .w) (s .pre .1 .0 .0)) (same (s .args .b + c .before .loop .j * s .args .w) (s .args .w) (row-below c)))
       (c .before .loop .inv .5 cands rest v₀ h)
 
 -- the value of the next candidate
@@ -89,8 +95,8 @@ unite-entry-requires c κs =
       (
         (omega (arith, s .pre .1 .0 .0, s .pre .1 .0 .2, q .2), omega (arith, row-below e, s .pre .1 .0 .2, q .2), omega (arith, s .pre .1 .0 .2, q .2)),
         (
-          (subst Readable (sym (same e (s .args .ra) (s .args .w) (s .pre .1 .0 .0))) (s .pre .1 .1 .0 .0), subst Readable (sym (same e (s .args .b + e .before .loop .j * s .args .w) (s .args .w) (row-below e))) (readable-row (s .args .carry) (s .args .w) (s .args .p) (s .args .ra) (s .args .va) (s .args .b) (s .args .n) (s .args .to) (s .args .others .now) (s .args .ws .now) (below s) (s .pre .1 .1 .0 .1) (s .pre .1 .1 .0 .2) (e .before .loop .j) (e .loop-test .taken)), subst (Keeps (s .args .carry)) (sym (t .together .ensures)) (keeps-together (s .args .carry) (s .args .va) _)),
-          (N .0, map (unite (s .args .carry) (s .args .w) (s .args .p) (s .args .ra) (s .args .va) (s .args .b) (s .args .n) (s .args .to) (s .args .others .now) (s .args .ws .now) (below s) (s .pre .1 .1 .0 .1) (s .pre .1 .1 .0 .2)) (drop (e .before .loop .j + 1) (bs (s .args .carry) (s .args .w) (s .args .p) (s .args .ra) (s .args .va) (s .args .b) (s .args .n) (s .args .to) (s .args .others .now) (s .args .ws .now) (below s) (s .pre .1 .1 .0 .1) (s .pre .1 .1 .0 .2))) ++ N .1, N .2, next e (t .together .result) (value t) (N .0) (N .1) (N .2) (N .3)),
+          (subst Readable (sym (same e (s .args .ra) (s .args .w) (s .pre .1 .0 .0))) (s .pre .1 .1 .0 .0), subst Readable (sym (same e (s .args .b + e .before .loop .j * s .args .w) (s .args .w) (row-below e))) (readable-row (s .args .carry) (s .args .w) (s .args .p) (s .args .b) (s .args .n) (s .args .others .now) (s .args .ws .now) (below s) (s .pre .1 .1 .0 .1) (s .pre .1 .1 .0 .2) (e .before .loop .j) (e .loop-test .taken)), subst (Keeps (s .args .carry)) (sym (t .together .ensures)) (keeps-together (s .args .carry) (s .args .va) _)),
+          (N .0, map (unite s) (drop (e .before .loop .j + 1) (those s)) ++ N .1, N .2, next e (t .together .result) (value t) (N .0) (N .1) (N .2) (N .3)),
         ),
       ),
     )
@@ -126,8 +132,8 @@ returns c =
     let j = e .before .loop .j in
     let t = u .before .before .before .before .before in
     λ cands rest ws₀ h. stepped-wide (c .if1 .taken)
-    (λ a. (fit-next (s .args .carry) (s .args .w) (s .args .p) (s .args .ra) (s .args .va) (s .args .b) (s .args .n) (s .args .to) (s .args .others .now) (s .args .ws .now) (below s) (s .pre .1 .1 .0 .1) (s .pre .1 .1 .0 .2) j (e .loop-test .taken) (t .together .result) (value t) (e .before .loop .ws) (same e (s .args .ra) (s .args .w) (s .pre .1 .0 .0)) (same e (s .args .b + j * s .args .w) (s .args .w) (row-below e)) a, tt))
-    (u .unite-entry .ensures cands (map (unite (s .args .carry) (s .args .w) (s .args .p) (s .args .ra) (s .args .va) (s .args .b) (s .args .n) (s .args .to) (s .args .others .now) (s .args .ws .now) (below s) (s .pre .1 .1 .0 .1) (s .pre .1 .1 .0 .2)) (drop (j + 1) (bs (s .args .carry) (s .args .w) (s .args .p) (s .args .ra) (s .args .va) (s .args .b) (s .args .n) (s .args .to) (s .args .others .now) (s .args .ws .now) (below s) (s .pre .1 .1 .0 .1) (s .pre .1 .1 .0 .2))) ++ rest) ws₀ (next e (t .together .result) (value t) cands rest ws₀ h))
+    (λ a. (fit-next (s .args .carry) (s .args .w) (s .args .p) (s .args .b) (s .args .n) (s .args .others .now) (s .args .ws .now) (below s) (s .pre .1 .1 .0 .1) (s .pre .1 .1 .0 .2) (s .args .ra) (s .args .va) j (e .loop-test .taken) (t .together .result) (value t) (e .before .loop .ws) (same e (s .args .ra) (s .args .w) (s .pre .1 .0 .0)) (same e (s .args .b + j * s .args .w) (s .args .w) (row-below e)) a, tt))
+    (u .unite-entry .ensures cands (map (unite s) (drop (j + 1) (those s)) ++ rest) ws₀ (next e (t .together .result) (value t) cands rest ws₀ h))
 
 add-j : tie.Need-add-j Inv-loop μ-loop
 add-j c = search needs
@@ -148,7 +154,7 @@ loop-again c =
       u .unite-entry .kept .0 ∙ q .2,
       u .unite-entry .kept .1 .1 .0 ∙ q .3,
       u .unite-entry .kept .1 .1 .1 .0 ∙ q .4,
-      λ cands rest v₀ h. u .unite-entry .ensures cands (map (unite (s .args .carry) (s .args .w) (s .args .p) (s .args .ra) (s .args .va) (s .args .b) (s .args .n) (s .args .to) (s .args .others .now) (s .args .ws .now) (below s) (s .pre .1 .1 .0 .1) (s .pre .1 .1 .0 .2)) (drop (j + 1) (bs (s .args .carry) (s .args .w) (s .args .p) (s .args .ra) (s .args .va) (s .args .b) (s .args .n) (s .args .to) (s .args .others .now) (s .args .ws .now) (below s) (s .pre .1 .1 .0 .1) (s .pre .1 .1 .0 .2))) ++ rest) v₀ (next e (t .together .result) (value t) cands rest v₀ h) .made (omega (arith, c .if1 .left)),
+      λ cands rest v₀ h. u .unite-entry .ensures cands (map (unite s) (drop (j + 1) (those s)) ++ rest) v₀ (next e (t .together .result) (value t) cands rest v₀ h) .made (omega (arith, c .if1 .left)),
     )
 
 same-length-5 : tie.Need-same-length-5 Inv-loop μ-loop
@@ -167,9 +173,8 @@ returns-2 : tie.Need-returns-2 Inv-loop μ-loop
 returns-2 c =
     let s = c .before .before .before .before .before .before .before in
     let k = c .before .loop in
-    let all : k .j ≡ s .args .n = omega (arith, k .inv .0, c .loop-test .left) in
-    λ cands rest ws₀ h. stepped (s .pre .0 .0) (subst (λ (xs : List Entry). Making (s .args .carry) (s .args .w) (s .args .p) (s .args .to) cands (map (unite (s .args .carry) (s .args .w) (s .args .p) (s .args .ra) (s .args .va) (s .args .b) (s .args .n) (s .args .to) (s .args .others .now) (s .args .ws .now) (below s) (s .pre .1 .1 .0 .1) (s .pre .1 .1 .0 .2)) xs ++ rest) (k .r) ws₀ (k .ws) (k .index) (k .vals))
-    (ap (λ (i : ℕ). drop i (bs (s .args .carry) (s .args .w) (s .args .p) (s .args .ra) (s .args .va) (s .args .b) (s .args .n) (s .args .to) (s .args .others .now) (s .args .ws .now) (below s) (s .pre .1 .1 .0 .1) (s .pre .1 .1 .0 .2))) all ∙ none-left (s .args .carry) (s .args .w) (s .args .p) (s .args .ra) (s .args .va) (s .args .b) (s .args .n) (s .args .to) (s .args .others .now) (s .args .ws .now) (below s) (s .pre .1 .1 .0 .1) (s .pre .1 .1 .0 .2)) (k .inv .5 cands rest ws₀ h))
+    λ cands rest ws₀ h. stepped (s .pre .0 .0) (subst (λ (xs : List Entry). Making (s .args .carry) (s .args .w) (s .args .p) (s .args .to) cands (map (unite s) xs ++ rest) (k .r) ws₀ (k .ws) (k .index) (k .vals))
+    (none-left (s .args .carry) (s .args .w) (s .args .p) (s .args .b) (s .args .n) (s .args .others .now) (s .args .ws .now) (below s) (s .pre .1 .1 .0 .1) (s .pre .1 .1 .0 .2) (k .j) (k .inv .0) (λ l. absurd (omega (arith, c .loop-test .left)))) (k .inv .5 cands rest ws₀ h))
 
 pub unite-with-all-spec : {M : Type 1} → statement M
 unite-with-all-spec =

@@ -1,0 +1,212 @@
+-- `operations::unite_all`: the products of the entries from i on are left.
+use mathlib.Core.Path.{_≡_, refl, sym, ap, _∙_, subst}
+use mathlib.Core.List.{List, _++_, map}
+use Prim.Native.Nat.{ℕ, _+_, _-_, _*_, _≤_}
+use lib.ListN.{length, drop, getD}
+use Rattle.lists.specs.Lists.{products}
+use Rattle.labels.specs.Labels.{labelCount}
+use Rattle.candidates.specs.Candidates.{Readable}
+use Rattle.rows.specs.Parts.{part}
+use Rattle.rows.specs.Rows.{Rows, rowsIn}
+use Rattle.rows.proofs.Tables.{row-within}
+use Rattle.entries.specs.Carries.{Entry, entryAlgebra, valuesIn}
+use Rattle.entries.specs.Entries.{withValues}
+use Rattle.operations.specs.Making.{Making, entryAt, entriesAt}
+use Rattle.operations.proofs.Uniting.{readable-row, same-below, products-next, fit-row, no-products, none-left, stepped, stepped-wide}
+use Rattle.operations.proofs.unite_all.Statement.{statement}
+use Rattle.operations.proofs.unite_all.Tie as tie
+use borrow.Author.Needs.{needs}
+use native.Mathlib.Omega.{arith}
+
+abbrev Inv-loop : tie.InvT-loop
+Inv-loop ws₀ row₀ index₀ vals₀ left right carry w p a na b nb to r₀ i₀ ws row index vals r i =
+    (i ≤ na) × (length row ≡ w) × (length ws ≡ length ws₀) × (length index ≡ length index₀) × (length vals ≡ length vals₀)
+    × ((cands rest : List Entry) (v₀ : List ℕ) → Making carry w p to cands (products (entryAlgebra labelCount carry .united) (entriesAt carry w p a na left ws₀) (entriesAt carry w p b nb right ws₀) ++ rest) 0 v₀ ws₀ index₀ vals₀
+    → Making carry w p to cands (products (entryAlgebra labelCount carry .united) (drop i (entriesAt carry w p a na left ws₀)) (entriesAt carry w p b nb right ws₀) ++ rest) r v₀ ws index vals)
+
+abbrev μ-loop : tie.MeasureT-loop
+μ-loop ws₀ row₀ index₀ vals₀ left right carry w p a na b nb to r₀ i₀ ws row index vals r i = na - i
+
+abbrev start : tie.In-loop Inv-loop μ-loop → tie.Start Inv-loop μ-loop
+start c = c .before .before .before .before .before .before .before .before
+
+-- the entries of the two tables
+abbrev these : tie.Start Inv-loop μ-loop → List Entry
+these s = entriesAt (s .args .carry) (s .args .w) (s .args .p) (s .args .a) (s .args .na) (s .args .left .now) (s .args .ws .now)
+
+abbrev those : tie.Start Inv-loop μ-loop → List ℕ → List Entry
+those s ws = entriesAt (s .args .carry) (s .args .w) (s .args .p) (s .args .b) (s .args .nb) (s .args .right .now) ws
+
+abbrev united : tie.Start Inv-loop μ-loop → Entry → Entry → Entry
+united s = entryAlgebra labelCount (s .args .carry) .united
+
+below : (s : tie.Start Inv-loop μ-loop) (k : ℕ) → k + s .args .p * s .args .w ≤ s .args .to → k + s .args .p * s .args .w ≤ length (s .args .ws .now)
+below s k l = omega (arith, s .pre .1 .0 .2)
+
+module _ (c : tie.In-loop Inv-loop μ-loop) where
+  -- the row that is united lies below the table that is being made
+  row-below : start c .args .a + c .before .loop .i * start c .args .w + start c .args .w ≤ start c .args .to
+  row-below = let s = start c in omega (arith, row-within (c .before .loop .i) (s .args .p) (s .args .w) (omega (arith, c .loop-test .taken, s .pre .1 .1 .0 .0 .room)), s .pre .1 .0 .0)
+
+  -- what lies there is as it was
+  same : (a k : ℕ) → a + k ≤ start c .args .to → part a k (c .before .loop .ws) ≡ part a k (start c .args .ws .now)
+  same a k l =
+      let s = start c in
+      let N = s .pre .1 .1 .1 in
+      same-below (N .3) (c .before .loop .inv .5 (N .0) (N .1) (N .2) (N .3)) a k l (omega (arith, N .3 .as-long, s .pre .1 .0 .2))
+
+  same-row : part (start c .args .a + c .before .loop .i * start c .args .w) (start c .args .w) (c .before .loop .ws) ≡ part (start c .args .a + c .before .loop .i * start c .args .w) (start c .args .w) (start c .args .ws .now)
+  same-row = same (start c .args .a + c .before .loop .i * start c .args .w) (start c .args .w) row-below
+
+  same-area : part (start c .args .b) (start c .args .p * start c .args .w) (c .before .loop .ws) ≡ part (start c .args .b) (start c .args .p * start c .args .w) (start c .args .ws .now)
+  same-area = same (start c .args .b) (start c .args .p * start c .args .w) (start c .pre .1 .0 .1)
+
+  same-those : those (start c) (c .before .loop .ws) ≡ those (start c) (start c .args .ws .now)
+  same-those = let s = start c in ap (λ (area : List ℕ). withValues (rowsIn (s .args .w) (s .args .nb) area) (valuesIn (s .args .carry) (s .args .nb) (s .args .right .now))) same-area
+
+  -- the next candidates, for a value v
+  module _ (v : ℕ) (ev : v ≡ getD (valuesIn (start c .args .carry) (start c .args .na) (start c .args .left .now)) (c .before .loop .i) 0) where
+    abbrev row : List Entry
+    row = let s = start c in map (united s (entryAt (s .args .w) (s .args .a + c .before .loop .i * s .args .w) v (c .before .loop .ws))) (those s (c .before .loop .ws))
+
+    next : (cands rest : List Entry) (v₀ : List ℕ) → Making (start c .args .carry) (start c .args .w) (start c .args .p) (start c .args .to) cands
+        (products (united (start c)) (these (start c)) (those (start c) (start c .args .ws .now)) ++ rest) 0 v₀ (start c .args .ws .now) (start c .args .index .now) (start c .args .vals .now)
+        → Making (start c .args .carry) (start c .args .w) (start c .args .p) (start c .args .to) cands
+        (row ++ (products (united (start c)) (drop (c .before .loop .i + 1) (these (start c))) (those (start c) (start c .args .ws .now)) ++ rest))
+        (c .before .loop .r) v₀ (c .before .loop .ws) (c .before .loop .index) (c .before .loop .vals)
+    next cands rest v₀ h =
+        let s = start c in
+        subst (λ (xs : List Entry). Making (s .args .carry) (s .args .w) (s .args .p) (s .args .to) cands xs (c .before .loop .r) v₀ (c .before .loop .ws) (c .before .loop .index) (c .before .loop .vals))
+        (products-next (s .args .carry) (s .args .w) (s .args .p) (s .args .a) (s .args .na) (s .args .left .now) (s .args .ws .now) (below s (s .args .a) (s .pre .1 .0 .0)) (s .pre .1 .1 .0 .0) (s .pre .1 .1 .0 .2) (those s (s .args .ws .now)) (those s (c .before .loop .ws)) same-those (c .before .loop .i) (c .loop-test .taken) v ev (c .before .loop .ws) same-row rest)
+        (c .before .loop .inv .5 cands rest v₀ h)
+
+loop-holds : tie.Need-loop-holds Inv-loop μ-loop
+loop-holds c = (omega arith, c .before .before .before .before .before .before .pre .0 .3, refl, refl, refl, λ cands rest v₀ h. h)
+
+mul-ra : tie.Need-mul-ra Inv-loop μ-loop
+mul-ra c = omega (arith, row-below c, start c .pre .1 .0 .2)
+
+add-ra : tie.Need-add-ra Inv-loop μ-loop
+add-ra c = omega (arith, row-below c, start c .pre .1 .0 .2)
+
+value-at-requires : tie.Need-value-at-requires Inv-loop μ-loop
+value-at-requires c κs =
+    let s = start c in
+    (s .pre .1 .1 .0 .2, (c .loop-test .taken, s .pre .1 .1 .0 .0 .room))
+
+unite-with-all-requires : tie.Need-unite-with-all-requires Inv-loop μ-loop
+unite-with-all-requires c κs =
+    let t = c .before .before .before .before in
+    let e = t .before in
+    let s = start e in
+    let q = e .before .loop .inv in
+    let N = s .pre .1 .1 .1 in (
+      (s .pre .0 .0, s .pre .0 .1, s .pre .0 .2, q .1),
+      (
+        (row-below e, s .pre .1 .0 .1, omega (arith, s .pre .1 .0 .2, q .2)),
+        (
+          (subst Readable (sym (same-row e)) (readable-row (s .args .carry) (s .args .w) (s .args .p) (s .args .a) (s .args .na) (s .args .left .now) (s .args .ws .now) (below s (s .args .a) (s .pre .1 .0 .0)) (s .pre .1 .1 .0 .0) (s .pre .1 .1 .0 .2) (e .before .loop .i) (e .loop-test .taken)), subst (Rows (s .args .w) (s .args .p) (s .args .nb)) (sym (same-area e)) (s .pre .1 .1 .0 .1), s .pre .1 .1 .0 .3),
+          (N .0, products (united s) (drop (e .before .loop .i + 1) (these s)) (those s (s .args .ws .now)) ++ N .1, N .2, next e (t .value-at .result) (t .value-at .ensures) (N .0) (N .1) (N .2) (N .3)),
+        ),
+      ),
+    )
+
+add-if1 : tie.Need-add-if1 Inv-loop μ-loop
+add-if1 c = search needs
+
+same-length : tie.Need-same-length Inv-loop μ-loop
+same-length c =
+    let u = c .before .before .before .before .before .before .before .before .before in
+    u .unite-with-all .kept .0 ∙ u .before .before .before .before .before .before .before .loop .inv .2
+
+same-length-2 : tie.Need-same-length-2 Inv-loop μ-loop
+same-length-2 c =
+    let u = c .before .before .before .before .before .before .before .before .before in
+    u .unite-with-all .kept .1 .0 ∙ u .before .before .before .before .before .before .before .loop .inv .1 ∙ sym (start (u .before .before .before .before .before .before) .pre .0 .3)
+
+same-length-3 : tie.Need-same-length-3 Inv-loop μ-loop
+same-length-3 c =
+    let u = c .before .before .before .before .before .before .before .before .before in
+    u .unite-with-all .kept .1 .1 .0 ∙ u .before .before .before .before .before .before .before .loop .inv .3
+
+same-length-4 : tie.Need-same-length-4 Inv-loop μ-loop
+same-length-4 c =
+    let u = c .before .before .before .before .before .before .before .before .before in
+    u .unite-with-all .kept .1 .1 .1 .0 ∙ u .before .before .before .before .before .before .before .loop .inv .4
+
+returns : tie.Need-returns Inv-loop μ-loop
+returns c =
+    let u = c .before .before .before .before .before .before .before .before .before in
+    let t = u .before .before .before .before .before in
+    let e = t .before in
+    let s = start e in
+    let k = e .before .loop in
+    λ cands rest ws₀ h. stepped-wide (c .if1 .taken)
+    (fit-row (s .args .carry) (s .args .w) (s .args .p) (s .args .a) (s .args .na) (s .args .left .now) (s .args .ws .now) (below s (s .args .a) (s .pre .1 .0 .0)) (s .pre .1 .1 .0 .0) (s .pre .1 .1 .0 .2) (those s (s .args .ws .now)) (those s (k .ws)) (same-those e) (k .i) (e .loop-test .taken) (t .value-at .result) (t .value-at .ensures) (k .ws) (same-row e))
+    (u .unite-with-all .ensures cands (products (united s) (drop (k .i + 1) (these s)) (those s (s .args .ws .now)) ++ rest) ws₀ (next e (t .value-at .result) (t .value-at .ensures) cands rest ws₀ h))
+
+add-i : tie.Need-add-i Inv-loop μ-loop
+add-i c = search needs
+
+loop-less : tie.Need-loop-less Inv-loop μ-loop
+loop-less c = omega (arith, c .before .before .before .before .before .before .before .before .before .before .before .before .before .before .before .loop-test .taken)
+
+loop-again : tie.Need-loop-again Inv-loop μ-loop
+loop-again c =
+    let u = c .before .before .before .before .before .before .before .before .before in
+    let t = u .before .before .before .before .before in
+    let e = t .before in
+    let s = start e in
+    let q = e .before .loop .inv in (
+      omega (arith, e .loop-test .taken),
+      u .unite-with-all .kept .1 .0 ∙ q .1,
+      u .unite-with-all .kept .0 ∙ q .2,
+      u .unite-with-all .kept .1 .1 .0 ∙ q .3,
+      u .unite-with-all .kept .1 .1 .1 .0 ∙ q .4,
+      λ cands rest v₀ h. u .unite-with-all .ensures cands (products (united s) (drop (e .before .loop .i + 1) (these s)) (those s (s .args .ws .now)) ++ rest) v₀ (next e (t .value-at .result) (t .value-at .ensures) cands rest v₀ h) .made (omega (arith, c .if1 .left)),
+    )
+
+same-length-5 : tie.Need-same-length-5 Inv-loop μ-loop
+same-length-5 c = c .before .loop .inv .2
+
+same-length-6 : tie.Need-same-length-6 Inv-loop μ-loop
+same-length-6 c = c .before .loop .inv .1 ∙ sym (c .before .before .before .before .before .before .before .before .pre .0 .3)
+
+same-length-7 : tie.Need-same-length-7 Inv-loop μ-loop
+same-length-7 c = c .before .loop .inv .3
+
+same-length-8 : tie.Need-same-length-8 Inv-loop μ-loop
+same-length-8 c = c .before .loop .inv .4
+
+returns-2 : tie.Need-returns-2 Inv-loop μ-loop
+returns-2 c =
+    let s = c .before .before .before .before .before .before .before .before in
+    let k = c .before .loop in
+    λ cands rest ws₀ h. stepped (s .pre .0 .0) (subst (λ (xs : List Entry). Making (s .args .carry) (s .args .w) (s .args .p) (s .args .to) cands (xs ++ rest) (k .r) ws₀ (k .ws) (k .index) (k .vals))
+    (no-products (united s) (drop (k .i) (these s)) (those s (s .args .ws .now)) (none-left (s .args .carry) (s .args .w) (s .args .p) (s .args .a) (s .args .na) (s .args .left .now) (s .args .ws .now) (below s (s .args .a) (s .pre .1 .0 .0)) (s .pre .1 .1 .0 .0) (s .pre .1 .1 .0 .2) (k .i) (k .inv .0) (λ l. absurd (omega (arith, c .loop-test .left))))) (k .inv .5 cands rest ws₀ h))
+
+pub unite-all-spec : {M : Type 1} → statement M
+unite-all-spec =
+    tie.close
+    (tie.spec
+    Inv-loop
+    μ-loop
+    loop-holds
+    mul-ra
+    add-ra
+    value-at-requires
+    unite-with-all-requires
+    add-if1
+    same-length
+    same-length-2
+    same-length-3
+    same-length-4
+    returns
+    add-i
+    loop-less
+    loop-again
+    same-length-5
+    same-length-6
+    same-length-7
+    same-length-8
+    returns-2)
