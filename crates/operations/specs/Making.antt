@@ -1,6 +1,6 @@
 -- A table that a command makes entry by entry in the scratch area, by candidate entries. Assumes nothing.
 use mathlib.Core.Path.{_≡_}
-use mathlib.Core.List.{List, _++_}
+use mathlib.Core.List.{List, _++_, map}
 use Prim.Native.Nat.{ℕ, _+_, _*_, _≤_, _<_, min}
 use lib.ListN.{length}
 use Rattle.lists.specs.Lists.{All}
@@ -8,8 +8,8 @@ use Rattle.lists.specs.Sorted.{insertAll, canon}
 use Rattle.labels.specs.Labels.{labelCount}
 use Rattle.tables.specs.Definitions.{unitePairs}
 use Rattle.candidates.specs.Candidates.{pairOf}
-use Rattle.rows.specs.Parts.{part, put}
-use Rattle.rows.specs.Rows.{Fit, rowsIn, Rows, Indexed}
+use Rattle.rows.specs.Parts.{part, put, zeros}
+use Rattle.rows.specs.Rows.{Fit, rowsIn, tableOf, sortedOf, Rows, Indexed}
 use Rattle.entries.specs.declared.Carry.{Carry}
 use Rattle.entries.specs.Carries.{Entry, entryAlgebra, valuesIn, Kept}
 use Rattle.entries.specs.Entries.{withValues, entriesOf}
@@ -54,6 +54,24 @@ Next carry w p to m xs ws index vals = (cands : List Entry) × (rest : List Entr
 abbrev pub Steps : Carry → ℕ → ℕ → ℕ → ℕ → List Entry → ℕ → List ℕ → List ℕ → List ℕ → List ℕ → List ℕ → List ℕ → Type 0
 Steps carry w p to m xs r ws index vals ws' index' vals' =
     (cands rest : List Entry) (ws₀ : List ℕ) → Making carry w p to cands (xs ++ rest) m ws₀ ws index vals → Stepped carry w p to cands rest xs r ws₀ ws' index' vals'
+
+-- r rows made at word `to` are put in order at word `at`, unless they are more than p; the words they were made in are zero
+pub record Settled (w p r at to : ℕ) (index ws ws' : List ℕ) : Type 0 where
+  pub table : r ≤ p → ws' ≡ put to (p * w) (put at (p * w) ws (tableOf w p (sortedOf w r (part to (p * w) ws) index))) (zeros (p * w))
+  pub none : p < r → ws' ≡ put to (p * w) ws (zeros (p * w))
+
+-- what a command whose candidates are cands leaves: the table of all candidates at word `at`, of r rows, and its values; nothing changes where it has more
+-- than p rows, r is p + 1, or where a candidate does not fit, r is p + 2. The words cleared are those with the operands gone.
+pub record Outcome (carry : Carry) (w p at : ℕ) (cands : List Entry) (r : ℕ) (ws cleared ws' vals' : List ℕ) : Type 0 where
+  pub most : r ≤ p + 2
+  pub wide : p + 1 < r → All (FitEntry w) cands → ⊥
+  pub fit : r ≤ p + 1 → All (FitEntry w) cands
+  pub over : r ≡ p + 1 → p < length (tableOfAll carry cands)
+  pub stays : p < r → ws' ≡ ws
+  pub count : r ≤ p → length (tableOfAll carry cands) ≡ r
+  pub table : r ≤ p → ws' ≡ put at (p * w) cleared (tableOf w p (map (λ x. x .item) (tableOfAll carry cands)))
+  pub kept : r ≤ p → Kept carry p r vals'
+  pub values : r ≤ p → withValues (map (λ x. x .item) (tableOfAll carry cands)) (valuesIn carry r vals') ≡ tableOfAll carry cands
 
 -- the entry of the row at word a, with a value
 abbrev pub entryAt : ℕ → ℕ → ℕ → List ℕ → Entry

@@ -5,12 +5,12 @@ ghost use mathlib.Core.List.{[], _∷_, map};
 ghost use Prim.Native.Nat.{_+_, _-_, _*_, _≤_, _<_};
 ghost use lib.ListN.{length};
 ghost use Rattle.candidates.specs.Candidates.{Readable};
-ghost use Rattle.rows.specs.Parts.{part, put};
+ghost use Rattle.rows.specs.Parts.{Apart, part, put, zeros};
 ghost use Rattle.lists.specs.Lists.{products};
 ghost use Rattle.labels.specs.Labels.{labelCount};
-ghost use Rattle.rows.specs.Rows.{Rows};
+ghost use Rattle.rows.specs.Rows.{Rows, Indexed};
 ghost use Rattle.entries.specs.Carries.{Keeps, Kept, entryAlgebra};
-ghost use Rattle.operations.specs.Making.{Next, Steps, unitedAt, entryAt, entriesAt};
+ghost use Rattle.operations.specs.Making.{Next, Steps, Settled, Outcome, unitedAt, entryAt, entriesAt};
 
 // The pairs at words ra and rb united with the value v, and put into the table that is being made at word `to`. The answer is the count then; p + 1
 // where there are more than p rows, p + 2 where the united pair does not fit.
@@ -133,6 +133,80 @@ pub fn unite_all(
             return r;
         }
         i += 1;
+    }
+    r
+}
+
+// The r rows that were made at word `to` take the place of the n rows at word `at`, unless they are more than p. The words they were made in are zero
+// again.
+pub fn settle(
+    ws: &mut [u32],
+    row: &mut [u32],
+    index: &[u32],
+    w: usize,
+    p: usize,
+    r: usize,
+    n: usize,
+    at: usize,
+    to: usize,
+)
+    requires { ⌜ (2 ≤ w) × (length (now row) ≡ w) ⌝ }
+    requires { ⌜ Apart at to (p * w) (length (now ws)) ⌝ }
+    requires { ⌜ Rows w p n (part at (p * w) (now ws)) × Rows w p p (part to (p * w) (now ws)) ⌝ }
+    requires { ⌜ (r ≤ p → Indexed w p r (part to (p * w) (now ws)) (now index)) ⌝ }
+    ensures { λ _. ⌜ Settled w p r at to (now (index .entry)) (now (ws .entry)) (now (ws .exit)) ⌝ }
+{
+    if p < r {
+        let area = p * w;
+        rows::clear_rows(&mut ws[to..to + area], w, p, 0, p);
+    } else {
+        rows::finish_table(ws, row, index, w, p, r, n, at, to);
+    }
+}
+
+// The table at word a, of na rows, becomes its union with the table at word b, of nb rows, which is gone then; made in the words from `to` on.
+pub fn unite_tables(
+    ws: &mut [u32],
+    row: &mut [u32],
+    index: &mut [u32],
+    vals: &mut [u64],
+    left: &[u64],
+    right: &[u64],
+    carry: Carry,
+    w: usize,
+    p: usize,
+    a: usize,
+    na: usize,
+    b: usize,
+    nb: usize,
+    to: usize,
+) -> usize
+    requires { ⌜ (2 ≤ w) × (w ≤ 4096) × (p ≤ 1024) × (length (now row) ≡ w) ⌝ }
+    requires { ⌜ (a + p * w ≤ b) × (b + p * w ≤ to) × (to + p * w ≤ length (now ws)) ⌝ }
+    requires { ⌜ Rows w p na (part a (p * w) (now ws)) × Rows w p nb (part b (p * w) (now ws)) × Kept carry p na (now left) × Kept carry p nb (now right) ⌝ }
+    requires { ⌜ (part to (p * w) (now ws) ≡ zeros (p * w)) × (p ≤ length (now index)) × Kept carry p 0 (now vals) ⌝ }
+    ensures { λ r. ⌜ Outcome carry w p a (products (entryAlgebra labelCount carry .united) (entriesAt carry w p a na (now (left .entry)) (now (ws .entry))) (entriesAt carry w p b nb (now (right .entry)) (now (ws .entry)))) r (now (ws .entry)) (put b (p * w) (now (ws .entry)) (zeros (p * w))) (now (ws .exit)) (now (vals .exit)) ⌝ }
+{
+    let r = unite_all(
+        ws,
+        row,
+        index,
+        vals,
+        left,
+        right,
+        carry,
+        w,
+        p,
+        a,
+        na,
+        b,
+        nb,
+        to,
+    );
+    settle(ws, row, index, w, p, r, na, a, to);
+    if r <= p {
+        let area = p * w;
+        rows::clear_rows(&mut ws[b..b + area], w, p, 0, nb);
     }
     r
 }
