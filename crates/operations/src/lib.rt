@@ -129,7 +129,7 @@ pub fn unite_all(
             to,
             r,
         );
-        if p + 1 < r {
+        if r > p + 1 {
             return r;
         }
         i += 1;
