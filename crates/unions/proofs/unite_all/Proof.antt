@@ -1,4 +1,4 @@
--- `operations::unite_all`: the products of the entries from i on are left.
+-- `unions::unite_all`: the products of the entries from i on are left.
 use mathlib.Core.Path.{_≡_, refl, sym, ap, _∙_, subst}
 use mathlib.Core.List.{List, _++_, map}
 use Prim.Native.Nat.{ℕ, _+_, _-_, _*_, _≤_}
@@ -11,10 +11,12 @@ use Rattle.rows.specs.Rows.{Rows, rowsIn}
 use Rattle.rows.proofs.Tables.{row-within}
 use Rattle.entries.specs.Carries.{Entry, entryAlgebra, valuesIn}
 use Rattle.entries.specs.Entries.{withValues}
-use Rattle.operations.specs.Making.{Making, entryAt, entriesAt}
-use Rattle.operations.proofs.Uniting.{readable-row, same-below, products-next, fit-row, no-products, none-left, stepped, stepped-wide}
-use Rattle.operations.proofs.unite_all.Statement.{statement}
-use Rattle.operations.proofs.unite_all.Tie as tie
+use Rattle.making.specs.Making.{Making, entryAt, entriesAt}
+use Rattle.making.proofs.Held.{readable-row, none-left}
+use Rattle.making.proofs.Stepping.{same-below, stepped, stepped-wide}
+use Rattle.unions.proofs.Uniting.{products-next, fit-row, no-products}
+use Rattle.unions.proofs.unite_all.Statement.{statement}
+use Rattle.unions.proofs.unite_all.Tie as tie
 use borrow.Author.Needs.{needs}
 use native.Mathlib.Omega.{arith}
 

@@ -1,16 +1,17 @@
-// One command on the tables of a workspace.
+// The union of two tables.
 use entries::Carry;
 ghost use mathlib.Core.Path.{_≡_};
 ghost use mathlib.Core.List.{[], _∷_, map};
 ghost use Prim.Native.Nat.{_+_, _-_, _*_, _≤_, _<_};
 ghost use lib.ListN.{length};
 ghost use Rattle.candidates.specs.Candidates.{Readable};
-ghost use Rattle.rows.specs.Parts.{Apart, part, put, zeros};
+ghost use Rattle.rows.specs.Parts.{part, put, zeros};
 ghost use Rattle.lists.specs.Lists.{products};
 ghost use Rattle.labels.specs.Labels.{labelCount};
-ghost use Rattle.rows.specs.Rows.{Rows, Indexed};
+ghost use Rattle.rows.specs.Rows.{Rows};
 ghost use Rattle.entries.specs.Carries.{Keeps, Kept, entryAlgebra};
-ghost use Rattle.operations.specs.Making.{Next, Steps, Settled, Outcome, unitedAt, entryAt, entriesAt};
+ghost use Rattle.making.specs.Making.{Next, Steps, Outcome, entryAt, entriesAt};
+ghost use Rattle.unions.specs.Unions.{unitedAt};
 
 // The pairs at words ra and rb united with the value v, and put into the table that is being made at word `to`. The answer is the count then; p + 1
 // where there are more than p rows, p + 2 where the united pair does not fit.
@@ -137,33 +138,6 @@ pub fn unite_all(
     r
 }
 
-// The r rows that were made at word `to` take the place of the n rows at word `at`, unless they are more than p. The words they were made in are zero
-// again.
-pub fn settle(
-    ws: &mut [u32],
-    row: &mut [u32],
-    index: &[u32],
-    w: usize,
-    p: usize,
-    r: usize,
-    n: usize,
-    at: usize,
-    to: usize,
-)
-    requires { ⌜ (2 ≤ w) × (length (now row) ≡ w) ⌝ }
-    requires { ⌜ Apart at to (p * w) (length (now ws)) ⌝ }
-    requires { ⌜ Rows w p n (part at (p * w) (now ws)) × Rows w p p (part to (p * w) (now ws)) ⌝ }
-    requires { ⌜ (r ≤ p → Indexed w p r (part to (p * w) (now ws)) (now index)) ⌝ }
-    ensures { λ _. ⌜ Settled w p r at to (now (index .entry)) (now (ws .entry)) (now (ws .exit)) ⌝ }
-{
-    if p < r {
-        let area = p * w;
-        rows::clear_rows(&mut ws[to..to + area], w, p, 0, p);
-    } else {
-        rows::finish_table(ws, row, index, w, p, r, n, at, to);
-    }
-}
-
 // The table at word a, of na rows, becomes its union with the table at word b, of nb rows, which is gone then; made in the words from `to` on.
 pub fn unite_tables(
     ws: &mut [u32],
@@ -203,7 +177,7 @@ pub fn unite_tables(
         nb,
         to,
     );
-    settle(ws, row, index, w, p, r, na, a, to);
+    making::settle(ws, row, index, w, p, r, na, a, to);
     if r <= p {
         let area = p * w;
         rows::clear_rows(&mut ws[b..b + area], w, p, 0, nb);

@@ -7,18 +7,19 @@ use native.Mathlib.Omega.{arith}
 use lib.ListN.{length}
 use Rattle.lists.specs.Sorted.{insertAll}
 use Rattle.lists.proofs.Canon.{length-insertAll}
+use Rattle.lists.specs.Lists.{All}
 use Rattle.labels.specs.Labels.{labelCount}
 use Rattle.tables.specs.Definitions.{Pair}
 use Rattle.candidates.specs.Candidates.{Readable, Made}
 use Rattle.rows.specs.Parts.{part, put}
 use Rattle.rows.specs.Rows.{Fit, Indexed}
-use Rattle.rows.proofs.Parts.{part-put, put-put, put-long, part-long}
+use Rattle.rows.proofs.Parts.{part-low, part-put, put-put, put-long, part-long}
 use Rattle.rows.proofs.Single.{read-fits}
 use Rattle.rows.proofs.Indexing.{padded-rows}
 use Rattle.entries.specs.declared.Carry.{Carry}
 use Rattle.entries.specs.Carries.{Entry, entryAlgebra, Kept}
 use Rattle.entries.specs.Entries.{entriesOf, entered, Entered}
-use Rattle.operations.specs.Making.{enteredAll, tableOfAll, FitEntry, Making, Stepped}
+use Rattle.making.specs.Making.{enteredAll, tableOfAll, FitEntry, Making, Stepped}
 
 -- one more of the candidates
 entered-next : (carry : Carry) (x : Entry) (rest acc : List Entry) → enteredAll carry rest (entered carry x acc) ≡ enteredAll carry (x ∷ rest) acc
@@ -141,3 +142,34 @@ made-readable h l e = omega (arith, h .fits l .0)
 
 pub made-fit : {w r : ℕ} {x : Pair} {row : List ℕ} → Made w r x row → r + 2 ≤ w → length row ≡ w → Fit w x
 made-fit {w} {row} h l e = subst (Fit w) (h .fits l .1) (read-fits row (made-readable h l e) e)
+
+-- what lies below the table that is being made stays
+pub same-below : {carry : Carry} {w p to : ℕ} {cands rest rest′ : List Entry} {m r : ℕ} {ws₀ wsₛ ws indexₛ index valsₛ vals : List ℕ}
+    → Making carry w p to cands rest m ws₀ wsₛ indexₛ valsₛ → Making carry w p to cands rest′ r ws₀ ws index vals
+    → (a k : ℕ) → a + k ≤ to → to ≤ length ws₀ → part a k ws ≡ part a k wsₛ
+same-below {w} {p} {to} {ws₀} {wsₛ} {ws} h g a k l e =
+    ap (part a k) (g .frame) ∙ part-low a k to (p * w) ws₀ (part to (p * w) ws) l e
+    ∙ sym (ap (part a k) (h .frame) ∙ part-low a k to (p * w) ws₀ (part to (p * w) wsₛ) l e)
+
+-- a table all of whose next candidates are in
+pub stepped : {carry : Carry} {w p to : ℕ} {cands rest xs : List Entry} {r : ℕ} {ws₀ ws index vals : List ℕ} → 2 ≤ w → Making carry w p to cands rest r ws₀ ws index vals → Stepped carry w p to cands rest xs r ws₀ ws index vals
+stepped g h = record {
+  most = omega (arith, h .bound);
+  same-length = h .as-long;
+  made = λ l. h;
+  wide = λ l a. absurd (omega (arith, h .bound));
+  scratch = h .frame;
+  rows = padded-rows (h .indexed) g;
+}
+
+-- a step that met a candidate which does not fit
+pub stepped-wide : {carry : Carry} {w p to : ℕ} {cands rest rest′ xs ys : List Entry} {r : ℕ} {ws₀ ws index vals : List ℕ} → p + 1 < r → (All (FitEntry w) ys → All (FitEntry w) xs)
+    → Stepped carry w p to cands rest xs r ws₀ ws index vals → Stepped carry w p to cands rest′ ys r ws₀ ws index vals
+stepped-wide l f h = record {
+  most = h .most;
+  same-length = h .same-length;
+  made = λ k. absurd (omega arith);
+  wide = λ k a. h .wide l (f a);
+  scratch = h .scratch;
+  rows = h .rows;
+}

@@ -1,4 +1,4 @@
--- `operations::unite_entry`: the candidate is made, then put in.
+-- `unions::unite_entry`: the candidate is made, then put in.
 use mathlib.Core.Path.{_≡_, refl, _∙_}
 use Prim.Native.Nat.{ℕ, _+_, _-_, _*_, _≤_}
 use lib.ListN.{length}
@@ -6,10 +6,10 @@ use Rattle.tables.specs.Definitions.{unitePairs}
 use Rattle.candidates.specs.Candidates.{pairOf, Made}
 use Rattle.rows.specs.Parts.{part, put}
 use Rattle.rows.proofs.Parts.{part-long}
-use Rattle.operations.proofs.Stepping.{making-indexed, making-kept, made-unfit, made-readable, made-fit, step-wide, step-over, step-in}
+use Rattle.making.proofs.Stepping.{making-indexed, making-kept, made-unfit, made-readable, made-fit, step-wide, step-over, step-in}
 use borrow.Author.Needs.{needs}
-use Rattle.operations.proofs.unite_entry.Statement.{statement}
-use Rattle.operations.proofs.unite_entry.Tie as tie
+use Rattle.unions.proofs.unite_entry.Statement.{statement}
+use Rattle.unions.proofs.unite_entry.Tie as tie
 use native.Mathlib.Omega.{arith}
 
 abbrev start : tie.After-unite-row → tie.Start

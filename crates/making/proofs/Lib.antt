@@ -1,3 +1,3 @@
+pub mod Held
 pub mod Settling
 pub mod Stepping
-pub mod Uniting

@@ -6,7 +6,6 @@ use lib.ListN.{length}
 use Rattle.lists.specs.Lists.{All}
 use Rattle.lists.specs.Sorted.{insertAll, canon}
 use Rattle.labels.specs.Labels.{labelCount}
-use Rattle.tables.specs.Definitions.{unitePairs}
 use Rattle.candidates.specs.Candidates.{pairOf}
 use Rattle.rows.specs.Parts.{part, put, zeros}
 use Rattle.rows.specs.Rows.{Fit, rowsIn, tableOf, sortedOf, Rows, Indexed}
@@ -80,7 +79,3 @@ entryAt w a v ws = record { item = pairOf (part a w ws); value = v }
 -- the entries of the n rows of the area at word a, with their values
 abbrev pub entriesAt : Carry → ℕ → ℕ → ℕ → ℕ → List ℕ → List ℕ → List Entry
 entriesAt carry w p a n vals ws = withValues (rowsIn w n (part a (p * w) ws)) (valuesIn carry n vals)
-
--- the pairs at words ra and rb united, with a value
-abbrev pub unitedAt : ℕ → ℕ → ℕ → ℕ → List ℕ → Entry
-unitedAt w ra rb v ws = record { item = unitePairs (pairOf (part ra w ws)) (pairOf (part rb w ws)); value = v }

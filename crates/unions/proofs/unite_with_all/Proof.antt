@@ -1,4 +1,4 @@
--- `operations::unite_with_all`: the candidates from j on are left.
+-- `unions::unite_with_all`: the candidates from j on are left.
 use mathlib.Core.Path.{_≡_, refl, sym, ap, _∙_, subst}
 use mathlib.Core.List.{List, _∷_, _++_, map}
 use Prim.Native.Nat.{ℕ, _+_, _-_, _*_, _≤_}
@@ -8,10 +8,13 @@ use Rattle.candidates.specs.Candidates.{Readable}
 use Rattle.rows.specs.Parts.{part}
 use Rattle.rows.proofs.Tables.{row-within}
 use Rattle.entries.specs.Carries.{Keeps, Entry, entryAlgebra, valuesIn, carriedBy}
-use Rattle.operations.specs.Making.{Making, entryAt, entriesAt, unitedAt}
-use Rattle.operations.proofs.Uniting.{readable-row, same-below, next-is, fit-next, none-left, stepped, stepped-wide, keeps-together}
-use Rattle.operations.proofs.unite_with_all.Statement.{statement}
-use Rattle.operations.proofs.unite_with_all.Tie as tie
+use Rattle.making.specs.Making.{Making, entryAt, entriesAt}
+use Rattle.unions.specs.Unions.{unitedAt}
+use Rattle.making.proofs.Held.{readable-row, none-left}
+use Rattle.making.proofs.Stepping.{same-below, stepped, stepped-wide}
+use Rattle.unions.proofs.Uniting.{next-is, fit-next, keeps-together}
+use Rattle.unions.proofs.unite_with_all.Statement.{statement}
+use Rattle.unions.proofs.unite_with_all.Tie as tie
 use borrow.Author.Needs.{needs}
 use native.Mathlib.Omega.{arith}
 

@@ -1,11 +1,11 @@
--- `operations::settle`: too many rows are cleared, others put in order.
+-- `making::settle`: too many rows are cleared, others put in order.
 use mathlib.Core.Path.{_≡_, refl, _∙_}
 use Prim.Native.Nat.{ℕ, _+_, _-_, _*_}
 use Rattle.rows.specs.Parts.{zeros}
 use Rattle.rows.specs.Rows.{tableOf}
 use borrow.Author.Needs.{needs}
-use Rattle.operations.proofs.settle.Statement.{statement}
-use Rattle.operations.proofs.settle.Tie as tie
+use Rattle.making.proofs.settle.Statement.{statement}
+use Rattle.making.proofs.settle.Tie as tie
 use native.Mathlib.Omega.{arith}
 
 span : (a k : ℕ) → a + k - a ≡ k

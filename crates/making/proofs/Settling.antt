@@ -17,8 +17,8 @@ use Rattle.entries.specs.declared.Carry.{Carry}
 use Rattle.entries.specs.Carries.{Entry, valuesIn, Kept}
 use Rattle.entries.specs.Entries.{withValues, entriesOf}
 use Rattle.entries.proofs.Entering.{length-with}
-use Rattle.operations.specs.Making.{enteredAll, tableOfAll, FitEntry, Making, Stepped, Settled, Outcome}
-use Rattle.operations.proofs.Stepping.{making-indexed, making-kept}
+use Rattle.making.specs.Making.{enteredAll, tableOfAll, FitEntry, Making, Stepped, Settled, Outcome}
+use Rattle.making.proofs.Stepping.{making-indexed, making-kept}
 
 -- ---- how it begins
 

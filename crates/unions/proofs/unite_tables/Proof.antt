@@ -1,4 +1,4 @@
--- `operations::unite_tables`: the candidates are put in, the table is settled, the operand goes.
+-- `unions::unite_tables`: the candidates are put in, the table is settled, the operand goes.
 use mathlib.Core.Path.{_≡_, refl, sym, _∙_, subst}
 use mathlib.Core.List.{List, []}
 use Prim.Native.Nat.{ℕ, _+_, _-_, _*_}
@@ -8,11 +8,11 @@ use Rattle.labels.specs.Labels.{labelCount}
 use Rattle.rows.specs.Parts.{zeros}
 use Rattle.rows.specs.Rows.{tableOf, Rows}
 use Rattle.entries.specs.Carries.{Entry, entryAlgebra}
-use Rattle.operations.specs.Making.{Stepped, entriesAt}
-use Rattle.operations.proofs.Settling.{begin, operand-there, outcome-gone, stepped-below, stepped-indexed}
+use Rattle.making.specs.Making.{Stepped, entriesAt}
+use Rattle.making.proofs.Settling.{begin, operand-there, outcome-gone, stepped-below, stepped-indexed}
 use borrow.Author.Needs.{needs}
-use Rattle.operations.proofs.unite_tables.Statement.{statement}
-use Rattle.operations.proofs.unite_tables.Tie as tie
+use Rattle.unions.proofs.unite_tables.Statement.{statement}
+use Rattle.unions.proofs.unite_tables.Tie as tie
 use native.Mathlib.Omega.{arith}
 
 abbrev start : tie.After-unite-all → tie.Start
