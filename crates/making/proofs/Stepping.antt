@@ -38,9 +38,9 @@ module _ {carry : Carry} {w p to : ℕ} {cands rest : List Entry} {m : ℕ} {ws�
   pub making-kept : Kept carry p m vals
   making-kept = subst (λ (n : ℕ). Kept carry p n vals) (let z : min m p ≡ m = omega arith in z) (h .kept)
 
-module _ {carry : Carry} {w p to : ℕ} {cands rest : List Entry} {x : Entry} {m : ℕ} {ws₀ ws index vals : List ℕ} (g : 2 ≤ w) (h : Making carry w p to cands (x ∷ rest) m ws₀ ws index vals) where
-  pub step-wide : (FitEntry w x → ⊥) → Stepped carry w p to cands rest (x ∷ []) (p + 2) ws₀ ws index vals
-  step-wide n = record {
+module _ {carry : Carry} {w p to : ℕ} {cands rest : List Entry} {x : Entry} {m : ℕ} {ws₀ ws index vals : List ℕ} (h : Making carry w p to cands (x ∷ rest) m ws₀ ws index vals) where
+  pub step-wide : 2 ≤ w → (FitEntry w x → ⊥) → Stepped carry w p to cands rest (x ∷ []) (p + 2) ws₀ ws index vals
+  step-wide g n = record {
     most = omega arith;
     same-length = h .as-long;
     made = λ l. absurd (omega arith);
@@ -49,23 +49,16 @@ module _ {carry : Carry} {w p to : ℕ} {cands rest : List Entry} {x : Entry} {m
     rows = padded-rows (h .indexed) g;
   }
 
-  pub step-over : p < m → FitEntry w x → Stepped carry w p to cands rest (x ∷ []) m ws₀ ws index vals
-  step-over l f = record {
-    most = omega (arith, h .bound);
-    same-length = h .as-long;
-    made = λ k. record {
-      bound = h .bound;
-      frame = h .frame;
-      as-long = h .as-long;
-      indexed = h .indexed;
-      kept = h .kept;
-      going = λ q. absurd (omega arith);
-      over = h .over;
-      fit = λ a. h .fit (f, a);
-    };
-    wide = λ k a. absurd (omega (arith, h .bound));
-    scratch = h .frame;
-    rows = padded-rows (h .indexed) g;
+  pub over-more : p < m → FitEntry w x → Making carry w p to cands rest m ws₀ ws index vals
+  over-more l f = record {
+    bound = h .bound;
+    frame = h .frame;
+    as-long = h .as-long;
+    indexed = h .indexed;
+    kept = h .kept;
+    going = λ q. absurd (omega arith);
+    over = h .over;
+    fit = λ a. h .fit (f, a);
   }
 
   module _ (few : m ≤ p) (f : FitEntry w x) (within : to + p * w ≤ length ws) (r : ℕ) (area' ws' index' vals' : List ℕ)
@@ -116,15 +109,8 @@ module _ {carry : Carry} {w p to : ℕ} {cands rest : List Entry} {x : Entry} {m
           fit = λ a. h .fit (f, a);
         }
 
-    pub step-in : Stepped carry w p to cands rest (x ∷ []) r ws₀ ws' index' vals'
-    step-in = record {
-      most = omega (arith, e .bound);
-      same-length = as-long;
-      made = λ l. made (decLe r p);
-      wide = λ l a. absurd (omega (arith, e .bound));
-      scratch = scratch;
-      rows = padded-rows (made (decLe r p) .indexed) g;
-    }
+    pub put-more : Making carry w p to cands rest r ws₀ ws' index' vals'
+    put-more = made (decLe r p)
       where
         made : Dec (r ≤ p) → Making carry w p to cands rest r ws₀ ws' index' vals'
         made (yes l) = fits l

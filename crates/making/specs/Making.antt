@@ -49,7 +49,12 @@ pub record Stepped (carry : Carry) (w p to : ℕ) (cands rest xs : List Entry) (
 abbrev pub Next : Carry → ℕ → ℕ → ℕ → ℕ → List Entry → List ℕ → List ℕ → List ℕ → Type 0
 Next carry w p to m xs ws index vals = (cands : List Entry) × (rest : List Entry) × (ws₀ : List ℕ) × Making carry w p to cands (xs ++ rest) m ws₀ ws index vals
 
--- whatever table is being made, xs are put in
+-- whatever table is being made, the candidates xs, which fit, are put in
+abbrev pub Puts : Carry → ℕ → ℕ → ℕ → ℕ → List Entry → ℕ → List ℕ → List ℕ → List ℕ → List ℕ → List ℕ → List ℕ → Type 0
+Puts carry w p to m xs r ws index vals ws' index' vals' =
+    (cands rest : List Entry) (ws₀ : List ℕ) → Making carry w p to cands (xs ++ rest) m ws₀ ws index vals → Making carry w p to cands rest r ws₀ ws' index' vals'
+
+-- whatever table is being made, xs are put in, or one of them does not fit
 abbrev pub Steps : Carry → ℕ → ℕ → ℕ → ℕ → List Entry → ℕ → List ℕ → List ℕ → List ℕ → List ℕ → List ℕ → List ℕ → Type 0
 Steps carry w p to m xs r ws index vals ws' index' vals' =
     (cands rest : List Entry) (ws₀ : List ℕ) → Making carry w p to cands (xs ++ rest) m ws₀ ws index vals → Stepped carry w p to cands rest xs r ws₀ ws' index' vals'
@@ -72,9 +77,12 @@ pub record Outcome (carry : Carry) (w p at : ℕ) (cands : List Entry) (r : ℕ)
   pub kept : r ≤ p → Kept carry p r vals'
   pub values : r ≤ p → withValues (map (λ x. x .item) (tableOfAll carry cands)) (valuesIn carry r vals') ≡ tableOfAll carry cands
 
--- the entry of the row at word a, with a value
+-- the entry of a row, with a value; of the row at word a
+abbrev pub entryOf : List ℕ → ℕ → Entry
+entryOf row v = record { item = pairOf row; value = v }
+
 abbrev pub entryAt : ℕ → ℕ → ℕ → List ℕ → Entry
-entryAt w a v ws = record { item = pairOf (part a w ws); value = v }
+entryAt w a v ws = entryOf (part a w ws) v
 
 -- the entries of the n rows of the area at word a, with their values
 abbrev pub entriesAt : Carry → ℕ → ℕ → ℕ → ℕ → List ℕ → List ℕ → List Entry

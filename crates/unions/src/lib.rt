@@ -40,11 +40,7 @@ pub fn unite_entry(
     if w - 2 < k {
         return p + 2;
     }
-    if p < m {
-        return m;
-    }
-    let end = to + p * w;
-    entries::insert_entry(&mut ws[to..end], index, vals, carry, w, p, m, row, v)
+    making::put_entry(ws, row, index, vals, carry, w, p, to, m, v)
 }
 
 // The entry of the row at word ra with value va united with each of the n rows at word b, whose values are `others`. The answer is as unite_entry's.

@@ -1,12 +1,15 @@
 -- `unions::unite_entry`: the candidate is made, then put in.
-use mathlib.Core.Path.{_≡_, refl, _∙_}
-use Prim.Native.Nat.{ℕ, _+_, _-_, _*_, _≤_}
+use mathlib.Core.Path.{_≡_, sym, _∙_, subst}
+use mathlib.Core.List.{List, _∷_}
+use Prim.Native.Nat.{ℕ, _+_, _-_, _≤_}
 use lib.ListN.{length}
-use Rattle.tables.specs.Definitions.{unitePairs}
+use Rattle.tables.specs.Definitions.{Pair, unitePairs}
 use Rattle.candidates.specs.Candidates.{pairOf, Made}
-use Rattle.rows.specs.Parts.{part, put}
-use Rattle.rows.proofs.Parts.{part-long}
-use Rattle.making.proofs.Stepping.{making-indexed, making-kept, made-unfit, made-readable, made-fit, step-wide, step-over, step-in}
+use Rattle.rows.specs.Parts.{part}
+use Rattle.entries.specs.Carries.{Entry}
+use Rattle.making.specs.Making.{Making, entryOf}
+use Rattle.making.proofs.Stepping.{made-unfit, made-readable, step-wide, stepped}
+use Rattle.unions.specs.Unions.{unitedAt}
 use borrow.Author.Needs.{needs}
 use Rattle.unions.proofs.unite_entry.Statement.{statement}
 use Rattle.unions.proofs.unite_entry.Tie as tie
@@ -27,6 +30,18 @@ made c =
 -- how many words it has
 long : (c : tie.After-unite-row) → length (c .unite-row .last .0) ≡ start c .args .w
 long c = c .unite-row .kept .0 ∙ start c .pre .0 .3
+
+-- it fits
+module _ (e : tie.Else1) where
+  roomy : e .before .before .before .unite-row .result + 2 ≤ start (e .before .before .before) .args .w
+  roomy = omega (arith, e .if1 .left, long (e .before .before .before), start (e .before .before .before) .pre .0 .0)
+
+  -- and is the next candidate
+  next : (cands rest : List Entry) (ws₀ : List ℕ) → Making (start (e .before .before .before) .args .carry) (start (e .before .before .before) .args .w) (start (e .before .before .before) .args .p) (start (e .before .before .before) .args .to) cands (unitedAt (start (e .before .before .before) .args .w) (start (e .before .before .before) .args .ra) (start (e .before .before .before) .args .rb) (start (e .before .before .before) .args .v) (start (e .before .before .before) .args .ws .now) ∷ rest) (start (e .before .before .before) .args .m) ws₀ (start (e .before .before .before) .args .ws .now) (start (e .before .before .before) .args .index .now) (start (e .before .before .before) .args .vals .now)
+      → Making (start (e .before .before .before) .args .carry) (start (e .before .before .before) .args .w) (start (e .before .before .before) .args .p) (start (e .before .before .before) .args .to) cands (entryOf (e .before .before .before .unite-row .last .0) (start (e .before .before .before) .args .v) ∷ rest) (start (e .before .before .before) .args .m) ws₀ (start (e .before .before .before) .args .ws .now) (start (e .before .before .before) .args .index .now) (start (e .before .before .before) .args .vals .now)
+  next cands rest ws₀ h =
+      let s = start (e .before .before .before) in
+      subst (λ (x : Pair). Making (s .args .carry) (s .args .w) (s .args .p) (s .args .to) cands (record { item = x; value = s .args .v } ∷ rest) (s .args .m) ws₀ (s .args .ws .now) (s .args .index .now) (s .args .vals .now)) (sym (made (e .before .before .before) .fits roomy .1)) h
 
 add-unite-row : tie.Need-add-unite-row
 add-unite-row c = search needs
@@ -79,7 +94,15 @@ returns : tie.Need-returns
 returns c =
     let u = c .before .before .before in
     let s = start u in
-    λ cands rest ws₀ h. step-wide (s .pre .0 .0) h (made-unfit (made u) (omega (arith, c .if1 .taken, long u)))
+    λ cands rest ws₀ h. step-wide h (s .pre .0 .0) (made-unfit (made u) (omega (arith, c .if1 .taken, long u)))
+
+put-entry-requires : tie.Need-put-entry-requires
+put-entry-requires c κs =
+    let e = c .before .before .before .before in
+    let u = e .before .before .before in
+    let s = start u in
+    let N = s .pre .1 .1 .1 in
+    ((s .pre .0 .0, s .pre .0 .2, s .pre .1 .0 .2), ((made-readable (made u) (roomy e) (long u), long u, s .pre .1 .1 .0 .2), (N .0, N .1, N .2, next e (N .0) (N .1) (N .2) (N .3))))
 
 same-length-3 : tie.Need-same-length-3
 same-length-3 c = search needs
@@ -87,64 +110,18 @@ same-length-3 c = search needs
 same-length-4 : tie.Need-same-length-4
 same-length-4 c = search needs
 
-returns-2 : tie.Need-returns-2
-returns-2 c =
-    let u = c .before .before .before .before in
-    let s = start u in
-    λ cands rest ws₀ h. step-over (s .pre .0 .0) h (c .if2 .taken) (made-fit (made u) (omega (arith, c .before .if1 .left, long u, s .pre .0 .0)) (long u))
-
-mul-end : tie.Need-mul-end
-mul-end c = search needs
-
-add-end : tie.Need-add-end
-add-end c = search needs
-
-mul-insert-entry : tie.Need-mul-insert-entry
-mul-insert-entry c = search needs
-
-sub-insert-entry : tie.Need-sub-insert-entry
-sub-insert-entry c = search needs
-
-part-insert-entry-start : tie.Need-part-insert-entry-start
-part-insert-entry-start c = search needs
-
-part-insert-entry-end : tie.Need-part-insert-entry-end
-part-insert-entry-end c = search needs
-
-insert-entry-requires : tie.Need-insert-entry-requires
-insert-entry-requires c κs =
-    let e = c .before .before .before .before in
-    let u = e .before .before .before .before in
-    let s = start u in
-    let h = s .pre .1 .1 .1 .3 in
-    let few : s .args .m ≤ s .args .p = omega (arith, e .if2 .left) in
-    let l : u .unite-row .result + 2 ≤ s .args .w = omega (arith, e .before .if1 .left, long u, s .pre .0 .0) in
-    ((s .pre .0 .0, s .pre .0 .2), (rw (span (s .args .to) (s .args .p * s .args .w)) (making-indexed h few), ((making-kept h few, s .pre .1 .1 .0 .2), (made-readable (made u) l (long u), long u))))
-
 same-length-5 : tie.Need-same-length-5
 same-length-5 c = search needs
 
 same-length-6 : tie.Need-same-length-6
 same-length-6 c = search needs
 
-same-length-7 : tie.Need-same-length-7
-same-length-7 c = search needs
-
-same-length-8 : tie.Need-same-length-8
-same-length-8 c = search needs
-
-returns-3 : tie.Need-returns-3
-returns-3 c =
+returns-2 : tie.Need-returns-2
+returns-2 c =
     let k = c .before .before .before .before .before .before in
     let e = k .before .before .before .before .before in
-    let u = e .before .before .before .before in
-    let s = start u in
-    let few : s .args .m ≤ s .args .p = omega (arith, e .if2 .left) in
-    let l : u .unite-row .result + 2 ≤ s .args .w = omega (arith, e .before .if1 .left, long u, s .pre .0 .0) in
-    let q = span (s .args .to) (s .args .p * s .args .w) in
-    let n = rw (q, made u .fits l .1) at (k .insert-entry .ensures) in
-    let long-area : length (k .insert-entry .last .0) ≡ s .args .p * s .args .w = (rw q at (k .insert-entry .kept .0)) ∙ part-long (s .args .to) (s .args .p * s .args .w) (s .args .ws .now) (s .pre .1 .0 .2) in
-    λ cands rest ws₀ h. rw q (step-in (s .pre .0 .0) h few (made-fit (made u) l (long u)) (s .pre .1 .0 .2) (k .insert-entry .result) (k .insert-entry .last .0) _ (k .insert-entry .last .1 .0) (k .insert-entry .last .1 .1 .0) n refl long-area)
+    let s = start (e .before .before .before) in
+    λ cands rest ws₀ h. stepped (s .pre .0 .0) (k .put-entry .ensures cands rest ws₀ (next e cands rest ws₀ h))
 
 pub unite-entry-spec : {M : Type 1} → statement M
 unite-entry-spec =
@@ -166,18 +143,9 @@ unite-entry-spec =
     same-length
     same-length-2
     returns
+    put-entry-requires
     same-length-3
     same-length-4
-    returns-2
-    mul-end
-    add-end
-    mul-insert-entry
-    sub-insert-entry
-    part-insert-entry-start
-    part-insert-entry-end
-    insert-entry-requires
     same-length-5
     same-length-6
-    same-length-7
-    same-length-8
-    returns-3)
+    returns-2)
