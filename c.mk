@@ -20,6 +20,8 @@ C_OUT := target/c-sanitized
 C_FLAGS += -fsanitize=address,undefined -fno-sanitize-recover=all
 endif
 
+C_BIN := $(C_OUT)/bin
+
 C_SUPPORT := tests/calls tests/lent tests/random tests/oracle tests/policy
 C_REFERENCE := bench/reference bench/tables
 C_TESTS := test_calls test_random test_walk test_sheets test_large test_stack
@@ -34,21 +36,21 @@ bench_PARTS := bench/bench bench/families bench/clingo $(C_REFERENCE) tests/poli
 host_PARTS := examples/host examples/sheet_file
 
 # Under the sanitizers stack frames are larger than the library's own.
-c-test: $(C_TESTS:%=$(C_OUT)/%) $(C_OUT)/host
-	$(C_OUT)/test_calls
-	$(C_OUT)/test_random
-	$(C_OUT)/test_walk
-	$(C_OUT)/test_sheets examples/sheets/*.hex
-	$(C_OUT)/test_large
-	$(if $(SANITIZE),,$(C_OUT)/test_stack)
-	$(C_OUT)/host examples/sheets/office.hex
+c-test: $(C_TESTS:%=$(C_BIN)/%) $(C_BIN)/host
+	$(C_BIN)/test_calls
+	$(C_BIN)/test_random
+	$(C_BIN)/test_walk
+	$(C_BIN)/test_sheets examples/sheets/*.hex
+	$(C_BIN)/test_large
+	$(if $(SANITIZE),,$(C_BIN)/test_stack)
+	$(C_BIN)/host examples/sheets/office.hex
 
-bench: $(C_OUT)/bench
-	$(C_OUT)/bench
+bench: $(C_BIN)/bench
+	$(C_BIN)/bench
 
 # The host's status is 1 for no and 2 for refused: neither is a fault of the run.
-run: $(C_OUT)/host
-	@$(C_OUT)/host $(SHEET) || [ $$? -le 2 ]
+run: $(C_BIN)/host
+	@$(C_BIN)/host $(SHEET) || [ $$? -le 2 ]
 
 install: $(ARCHIVE)
 	install -d $(DESTDIR)$(PREFIX)/lib/pkgconfig $(DESTDIR)$(PREFIX)/include
@@ -62,7 +64,8 @@ target/staticlib/libnuntennis.a: FORCE
 FORCE:
 
 define C_PROGRAM
-$(C_OUT)/$(1): $$($(1)_PARTS:%=$(C_OUT)/%.o) $(ARCHIVE)
+$(C_BIN)/$(1): $$($(1)_PARTS:%=$(C_OUT)/%.o) $(ARCHIVE)
+	@mkdir -p $$(@D)
 	$$(CC) $$(C_FLAGS) $$^ -pthread -ldl -o $$@
 endef
 $(foreach p,$(C_TESTS) bench host,$(eval $(call C_PROGRAM,$(p))))

@@ -42,24 +42,25 @@ static void copy(instance *x, unsigned group)
     add_leaf(x, 0x11, group);
 }
 
-static void move(instance *x, unsigned i, unsigned j)
+static void put_link(instance *x, unsigned code, unsigned i, unsigned j)
 {
-    put(x, 0x31);
+    put(x, code);
     put(x, i);
     put(x, j);
 }
 
+static void move(instance *x, unsigned i, unsigned j)
+{
+    put_link(x, 0x31, i, j);
+}
+
 typedef struct { unsigned code, group; } link;
 
-// A rule with the links given; its number of links comes first.
+// A rule with so many links.
 static void rule(instance *x, unsigned links, const link *l)
 {
     add_leaf(x, 0x12, HAND);
-    for (unsigned k = 0; k < links; k++) {
-        put(x, l[k].code);
-        put(x, l[k].group);
-        put(x, HAND);
-    }
+    for (unsigned k = 0; k < links; k++) put_link(x, l[k].code, l[k].group, HAND);
     move(x, HAND, DONE);
 }
 
@@ -159,7 +160,7 @@ static void next_pair(instance *x)
     move(x, Z, Z_BEFORE);
 }
 
-// Valid: w follows where y falls somewhere, or never holds, or always does. Not valid without the last term.
+// Terms that hang together: w follows where y falls somewhere, or never holds, or always does. Not valid without the last one.
 static void saturation(instance **next, const char *family, unsigned existential, unsigned is_valid)
 {
     instance *x = begin(next, family, 256, 128);
@@ -172,6 +173,24 @@ static void saturation(instance **next, const char *family, unsigned existential
         else RULE(x, {HEAD, W}, {NEEDED, Y_BEFORE}, {NEEDED, Z});
     }
     if (is_valid) RULE(x, {HEAD, W}, {NEEDED, Y});
+    RULE(x, {BARRING, W});
+}
+
+// Terms apart, and one over all pairs: w follows from any y, or from every z. Not valid without the last y.
+static void wide_saturation(instance **next, const char *family, unsigned is_valid)
+{
+    enum { EVERY_Z = 3 };
+    instance *x = begin(next, family, 256, 128);
+    copy(x, W);
+    add_leaf(x, 0x12, EVERY_Z);
+    put_link(x, HEAD, W, EVERY_Z);
+    for (unsigned k = 0; k < 30; k++) {
+        universal_pair(x);
+        put_link(x, NEEDED, Z, EVERY_Z);
+        if (is_valid || k < 29) RULE(x, {HEAD, W}, {NEEDED, Y});
+        move(x, Y, REST);
+        move(x, Z, REST);
+    }
     RULE(x, {BARRING, W});
 }
 
@@ -206,8 +225,8 @@ static void balanced(instance **next, const char *family, unsigned left, unsigne
     half(x, right, each);
     join(x);
     add_leaf(x, 0x12, DONE);
-    put(x, HEAD), put(x, 0), put(x, DONE);
-    put(x, BARRING), put(x, 1), put(x, DONE);
+    put_link(x, HEAD, 0, DONE);
+    put_link(x, BARRING, 1, DONE);
 }
 
 size_t all_families(instance *instances)
@@ -222,6 +241,8 @@ size_t all_families(instance *instances)
     saturation(&next, "saturation, 30 pairs, yes", 0, 1);
     saturation(&next, "saturation, 30 pairs, no", 0, 0);
     saturation(&next, "saturation, 15 and 15 pairs", 15, 1);
+    wide_saturation(&next, "wide saturation, 30 pairs, yes", 1);
+    wide_saturation(&next, "wide saturation, 30 pairs, no", 0);
     for (uint64_t seed = 1; seed <= 8; seed++) random_policy(&next, "random, 12 copies", 12, seed);
     for (uint64_t seed = 1; seed <= 8; seed++) random_policy(&next, "random, 24 copies", 24, seed);
     for (uint64_t seed = 1; seed <= 8; seed++) random_policy(&next, "random, 40 copies", 40, seed);

@@ -77,8 +77,8 @@
  *   15  subsets full   a pair of the table here has over G subsets             offset of the command that makes the table
  *   16  plans full     the table here has over P entries                       offset of the command that makes the table
  *   17  report short   report_len is under the words needed                    the offset asked
- *   18  record         step, verdict: the record or workspace is not one that  the record's place
- *                      a walk can have here; verdict: not at the end yet
+ *   18  record         step, verdict: record or workspace lack the form that   the record's place
+ *                      ONE COMMAND A CALL says; verdict: not at the end yet
  *
  * They are tested in this order: 1 to 4; then the whole sheet is read, and the first faulty command gives the lowest of 5 to 11 that
  * applies to it; then 12, 13, and 14 or 18; then the tables command by command, at each command 15 before 16; then 17. plain and
@@ -91,12 +91,12 @@
  *   decision, report: yes, no, reported   all zero                        only words written    -
  *   decision, report: 15, 16, 17          all zero                        unchanged             -
  *   start: moved                          all zero                        -                     place 0, no tables, all counts 0
- *   step: moved                           the tables after the command    -                     the place behind the command
+ *   step: moved                           the tables after the command    -                     the state after the command
  *   step: ended, 15, 16                   unchanged                       -                     unchanged
  *   verdict                               unchanged                       -                     unchanged
  *   any call: 1 to 14, 18                 unchanged                       unchanged             unchanged
  *
- * Words of workspace past the first NEED are never read or written, nor are words of report past those written.
+ * Words of workspace past the first NEED are never read or written. Words of report are only written, and none past those of the report.
  */
 #ifndef NUNTENNIS_H
 #define NUNTENNIS_H
