@@ -1,0 +1,210 @@
+// Grounded decisions side by side in one run: the archive, the hand-written C, and clingo where it is installed.
+#define _POSIX_C_SOURCE 200809L
+#include "clingo.h"
+#include "families.h"
+#include "nuntennis.h"
+#include "reference.h"
+
+#include <inttypes.h>
+#include <stdio.h>
+#include <stdlib.h>
+#include <string.h>
+#include <time.h>
+
+enum { RUNS = 7 };
+
+static uint32_t *workspace;
+
+static double seconds(void)
+{
+    struct timespec t;
+    clock_gettime(CLOCK_MONOTONIC, &t);
+    return (double)t.tv_sec + (double)t.tv_nsec * 1e-9;
+}
+
+// ---- the four ways to decide
+
+typedef struct { const instance *x; char *text; } question;
+
+static int by_archive(const question *q, uint64_t *plan)
+{
+    uint64_t answer[3];
+    const instance *x = q->x;
+    nuntennis_grounded(x->sheet, x->sheet_len, x->plan_limit, x->subset_limit, x->pins_in, x->pins_out, workspace,
+                       NUNTENNIS_WORKSPACE_WORDS(x->plan_limit, x->subset_limit), answer, 3);
+    *plan = answer[1];
+    return answer[0] == 2 ? -(int)answer[1] : (int)answer[0];
+}
+
+static int by_reference(const question *q, uint64_t *plan)
+{
+    uint64_t answer[3];
+    const instance *x = q->x;
+    reference_grounded(x->sheet, x->sheet_len, x->plan_limit, x->subset_limit, x->pins_in, x->pins_out, workspace,
+                       NUNTENNIS_WORKSPACE_WORDS(x->plan_limit, x->subset_limit), answer, 3);
+    *plan = answer[1];
+    return answer[0] == 2 ? -(int)answer[1] : (int)answer[0];
+}
+
+static int by_library(const question *q, uint64_t *plan)
+{
+    *plan = 0;
+    return clingo_by_library(q->text);
+}
+
+static int by_program(const question *q, uint64_t *plan)
+{
+    *plan = 0;
+    return clingo_by_program(q->text);
+}
+
+typedef int decide(const question *, uint64_t *);
+
+enum { ARCHIVE, REFERENCE, LIBRARY, PROGRAM, WAYS };
+
+static decide *const ways[WAYS] = {by_archive, by_reference, by_library, by_program};
+
+static bool is_there(unsigned way)
+{
+    return way == LIBRARY ? clingo_has_library() : way == PROGRAM ? clingo_has_program() : true;
+}
+
+// ---- all must agree
+
+static _Noreturn void disagree(const question *q, const char *what)
+{
+    printf("DISAGREEMENT on %s: %s\n", q->x->family, what);
+    for (size_t k = 0; k < q->x->sheet_len; k++) printf("%02X%c", q->x->sheet[k], k % 24 == 23 ? '\n' : ' ');
+    printf("\n");
+    exit(1);
+}
+
+// The plan shown is an answer set: with every copy pinned to it the answer is still yes.
+static void check_plan(const question *q, uint64_t plan, const policy *p)
+{
+    uint64_t all = p->atoms == 64 ? UINT64_MAX : ((uint64_t)1 << p->atoms) - 1, ignored;
+    instance pinned = *q->x;
+    if ((plan & ~all) || (q->x->pins_in & ~plan) || (q->x->pins_out & plan)) disagree(q, "the plan does not obey the pins");
+    pinned.pins_in = plan;
+    pinned.pins_out = all & ~plan;
+    question fixed = {&pinned, asp_text(p, pinned.pins_in, pinned.pins_out)};
+    if (by_reference(&fixed, &ignored) != 1) disagree(q, "the plan shown is not grounded, says the hand-written C");
+    if (clingo_has_library() && clingo_by_library(fixed.text) != 1) disagree(q, "the plan shown is no answer set, says clingo");
+    free(fixed.text);
+}
+
+static int check_agreement(const question *q, const policy *p)
+{
+    uint64_t plan, other;
+    int said = by_archive(q, &plan);
+    if (said < 0) disagree(q, "the archive refuses");
+    for (unsigned way = REFERENCE; way < WAYS; way++)
+        if (is_there(way) && ways[way](q, &other) != said) disagree(q, way == REFERENCE ? "the hand-written C" : "clingo");
+    if (said == 1) check_plan(q, plan, p);
+    return said;
+}
+
+// ---- timing
+
+static int compare_times(const void *a, const void *b)
+{
+    double x = *(const double *)a, y = *(const double *)b;
+    return x < y ? -1 : x > y;
+}
+
+// One run: every sheet of the family so many times. Seconds per decision.
+static double time_run(decide *way, const question *q, size_t n, unsigned times)
+{
+    uint64_t plan;
+    double start = seconds();
+    for (unsigned t = 0; t < times; t++)
+        for (size_t k = 0; k < n; k++) way(&q[k], &plan);
+    return (seconds() - start) / ((double)times * (double)n);
+}
+
+// So many times that a run takes some 20 ms.
+static unsigned times_of(decide *way, const question *q, size_t n)
+{
+    double once = time_run(way, q, n, 1) * (double)n;
+    return once > 0.02 ? 1 : (unsigned)(0.02 / once) + 1;
+}
+
+// Medians; the ways take turns, so that a busy machine is busy for all of them.
+static void time_family(const question *q, size_t n, double *median)
+{
+    double run[WAYS][RUNS];
+    unsigned times[WAYS];
+    for (unsigned way = 0; way < WAYS; way++) times[way] = is_there(way) ? times_of(ways[way], q, n) : 0;
+    for (unsigned k = 0; k < RUNS; k++)
+        for (unsigned way = 0; way < WAYS; way++) run[way][k] = is_there(way) ? time_run(ways[way], q, n, times[way]) : 0;
+    for (unsigned way = 0; way < WAYS; way++) {
+        qsort(run[way], RUNS, sizeof(double), compare_times);
+        median[way] = run[way][RUNS / 2];
+    }
+}
+
+// ---- the table
+
+static void print_ratio(double ours, double theirs)
+{
+    if (theirs > 0) printf(" %8.2f", ours / theirs);
+    else printf(" %8s", "-");
+}
+
+static void print_time(double t)
+{
+    if (t > 0) printf(" %10.4f", t * 1e3);
+    else printf(" %10s", "-");
+}
+
+static void bench_family(const instance *x, size_t n)
+{
+    question q[INSTANCES];
+    double t[WAYS];
+    unsigned yes = 0;
+    for (size_t k = 0; k < n; k++) {
+        policy p;
+        policy_build(&p, x[k].sheet, x[k].sheet_len);
+        q[k] = (question){&x[k], asp_text(&p, x[k].pins_in, x[k].pins_out)};
+        yes += check_agreement(&q[k], &p) == 1;
+    }
+    time_family(q, n, t);
+    printf("%-32s %3zu %3u %5" PRIu64 " %5" PRIu64, x->family, n, yes, x->plan_limit, x->subset_limit);
+    print_time(t[ARCHIVE]);
+    print_time(t[REFERENCE]);
+    print_ratio(t[ARCHIVE], t[REFERENCE]);
+    print_time(t[LIBRARY]);
+    print_ratio(t[ARCHIVE], t[LIBRARY]);
+    print_time(t[PROGRAM]);
+    printf("\n");
+    fflush(stdout);
+    for (size_t k = 0; k < n; k++) free(q[k].text);
+}
+
+static void print_head(void)
+{
+    printf("Milliseconds per grounded decision, median of %d runs. Each decision reads the sheet, checks, walks and clears the workspace.\n",
+           RUNS);
+    if (clingo_has_library()) printf("clingo %s in this process: grounding and solving of the same policy as text.\n", clingo_version_text());
+    else printf("No clingo library (CLINGO_LIBRARY=path of libclingo.so.3, Debian package gringo): its columns are empty.\n");
+    if (clingo_has_program()) printf("clingo as a program: the same with its start, timed from outside.\n");
+    else printf("No clingo program (CLINGO=path, Debian package gringo): its column is empty.\n");
+    printf("%-32s %3s %3s %5s %5s %10s %10s %8s %10s %8s %10s\n", "family", "n", "yes", "P", "G", "archive", "C", "/ C", "clingo",
+           "/ clingo", "program");
+}
+
+int main(int arguments, char **argument)
+{
+    static instance x[INSTANCES];
+    size_t n = all_families(x);
+    workspace = calloc(NUNTENNIS_WORKSPACE_WORDS(1024, 1024), sizeof *workspace);
+    memset(workspace, 1, NUNTENNIS_WORKSPACE_WORDS(1024, 1024) * sizeof *workspace);
+    if (arguments < 2 || strcmp(argument[1], "--without-clingo") != 0) clingo_begin();
+    print_head();
+    for (size_t k = 0, end; k < n; k = end) {
+        for (end = k; end < n && x[end].family == x[k].family; end++) {}
+        bench_family(&x[k], end - k);
+    }
+    printf("bench: all answers agree\n");
+    return 0;
+}

@@ -1,0 +1,252 @@
+// Sheets by family: each policy is written copy by copy, with the copies that later rules still name in groups of their own.
+#include "families.h"
+
+#include <stdio.h>
+#include <stdlib.h>
+
+// Groups below REST hold copies that rules still name; then all other copies, the rule in hand, and rules that are done.
+enum { REST = 5, HAND = 6, DONE = 7 };
+
+enum { HEAD = 0x41, NEEDED = 0x42, BARRING = 0x43 };
+
+// ---- writing a sheet
+
+static void put(instance *x, unsigned byte)
+{
+    if (x->sheet_len == sizeof x->sheet) {
+        fprintf(stderr, "families: %s is too long\n", x->family);
+        exit(2);
+    }
+    x->sheet[x->sheet_len++] = (uint8_t)byte;
+}
+
+static void leaf(instance *x, unsigned code, unsigned group)
+{
+    put(x, code);
+    put(x, group);
+}
+
+static void join(instance *x)
+{
+    put(x, 0x21);
+}
+
+static void add_leaf(instance *x, unsigned code, unsigned group)
+{
+    leaf(x, code, group);
+    if (x->sheet_len > 2) join(x);
+}
+
+static void copy(instance *x, unsigned group)
+{
+    add_leaf(x, 0x11, group);
+}
+
+static void put_link(instance *x, unsigned code, unsigned i, unsigned j)
+{
+    put(x, code);
+    put(x, i);
+    put(x, j);
+}
+
+static void move(instance *x, unsigned i, unsigned j)
+{
+    put_link(x, 0x31, i, j);
+}
+
+typedef struct { unsigned code, group; } link;
+
+// A rule with so many links.
+static void rule(instance *x, unsigned links, const link *l)
+{
+    add_leaf(x, 0x12, HAND);
+    for (unsigned k = 0; k < links; k++) put_link(x, l[k].code, l[k].group, HAND);
+    move(x, HAND, DONE);
+}
+
+#define RULE(x, ...) rule(x, sizeof((link[]){__VA_ARGS__}) / sizeof(link), (link[]){__VA_ARGS__})
+
+static instance *begin(instance **next, const char *family, uint64_t plan_limit, uint64_t subset_limit)
+{
+    instance *x = (*next)++;
+    *x = (instance){family, {0}, 0, plan_limit, subset_limit, 0, 0};
+    return x;
+}
+
+// ---- random numbers with a fixed start
+
+static uint64_t random_state;
+
+static unsigned random_below(unsigned n)
+{
+    uint64_t x = random_state += 0x9E3779B97F4A7C15u;
+    x = (x ^ x >> 30) * 0xBF58476D1CE4E5B9u;
+    x = (x ^ x >> 27) * 0x94D049BB133111EBu;
+    return (unsigned)(((x ^ x >> 31) >> 32) * n >> 32);
+}
+
+static link random_link(unsigned groups, unsigned codes)
+{
+    unsigned code = HEAD + random_below(codes);
+    return (link){code, random_below(groups)};
+}
+
+// A head, and one or two more links among so many groups; with two codes no link is barring, and some plan is grounded.
+static void random_rule(instance *x, unsigned groups, unsigned codes)
+{
+    link first = {HEAD, random_below(groups)}, second = random_link(groups, codes), third = random_link(groups, codes);
+    rule(x, 2 + (random_below(4) == 0), (link[]){first, second, third});
+}
+
+// ---- chains: 63 copies and 256 rules; a rule names copies among the last few
+
+static void chain(instance **next, const char *family, unsigned kept, unsigned codes, uint64_t seed)
+{
+    instance *x = begin(next, family, 64, 32);
+    random_state = seed;
+    unsigned rules = 0;
+    for (unsigned c = 0; c < 63; c++) {
+        if (c >= kept) move(x, c % kept, REST);
+        copy(x, c % kept);
+        for (; c + 1 >= kept && rules < (c + 1) * 256 / 63; rules++) random_rule(x, kept, codes);
+    }
+}
+
+// ---- circles: each copy needs the next one, or is kept unless the next one is
+
+static void circle(instance **next, const char *family, unsigned copies, unsigned code, uint64_t pins_in)
+{
+    instance *x = begin(next, family, 64, 64);
+    x->pins_in = pins_in;
+    copy(x, 0);
+    copy(x, 1);
+    RULE(x, {HEAD, 0}, {code, 1});
+    for (unsigned c = 2; c < copies; c++) {
+        copy(x, 2);
+        RULE(x, {HEAD, 1}, {code, 2});
+        move(x, 1, REST);
+        move(x, 2, 1);
+    }
+    RULE(x, {HEAD, 1}, {code, 0});
+}
+
+// ---- saturation: the reduction of a quantified formula, over 30 pairs of copies and one copy w
+
+enum { W = 0, Y = 1, Z = 2, Y_BEFORE = 3, Z_BEFORE = 4 };
+
+static void universal_pair(instance *x)
+{
+    copy(x, Y);
+    copy(x, Z);
+    RULE(x, {HEAD, Y}, {HEAD, Z});
+    RULE(x, {HEAD, Y}, {NEEDED, W});
+    RULE(x, {HEAD, Z}, {NEEDED, W});
+    RULE(x, {HEAD, W}, {NEEDED, Y}, {NEEDED, Z});
+}
+
+static void existential_pair(instance *x)
+{
+    copy(x, Y);
+    copy(x, Z);
+    RULE(x, {HEAD, Y}, {HEAD, Z});
+}
+
+// The pair in hand becomes the one before.
+static void next_pair(instance *x)
+{
+    move(x, Y_BEFORE, REST);
+    move(x, Z_BEFORE, REST);
+    move(x, Y, Y_BEFORE);
+    move(x, Z, Z_BEFORE);
+}
+
+// Terms that hang together: w follows where y falls somewhere, or never holds, or always does. Not valid without the last one.
+static void saturation(instance **next, const char *family, unsigned existential, unsigned is_valid)
+{
+    instance *x = begin(next, family, 256, 128);
+    copy(x, W);
+    for (unsigned k = 0; k < 30; k++) {
+        if (k > 0) next_pair(x);
+        if (k < existential) existential_pair(x);
+        else universal_pair(x);
+        if (k == 0) RULE(x, {HEAD, W}, {NEEDED, Z});
+        else RULE(x, {HEAD, W}, {NEEDED, Y_BEFORE}, {NEEDED, Z});
+    }
+    if (is_valid) RULE(x, {HEAD, W}, {NEEDED, Y});
+    RULE(x, {BARRING, W});
+}
+
+// Terms apart, and one over all pairs: w follows from any y, or from every z. Not valid without the last y.
+static void wide_saturation(instance **next, const char *family, unsigned is_valid)
+{
+    enum { EVERY_Z = 3 };
+    instance *x = begin(next, family, 256, 128);
+    copy(x, W);
+    add_leaf(x, 0x12, EVERY_Z);
+    put_link(x, HEAD, W, EVERY_Z);
+    for (unsigned k = 0; k < 30; k++) {
+        universal_pair(x);
+        put_link(x, NEEDED, Z, EVERY_Z);
+        if (is_valid || k < 29) RULE(x, {HEAD, W}, {NEEDED, Y});
+        move(x, Y, REST);
+        move(x, Z, REST);
+    }
+    RULE(x, {BARRING, W});
+}
+
+// ---- random policies: rules over four groups that copies come to in turn
+
+static void random_policy(instance **next, const char *family, unsigned copies, uint64_t seed)
+{
+    instance *x = begin(next, family, 256, 64);
+    random_state = seed;
+    for (unsigned c = 0; c < copies; c++) {
+        if (c >= 4) move(x, c % 4, REST);
+        copy(x, c % 4);
+        for (unsigned k = random_below(4); c >= 3 && k > 0; k--) random_rule(x, 4, 3);
+    }
+}
+
+// ---- balanced joins: two halves that share groups
+
+static void half(instance *x, unsigned groups, unsigned each)
+{
+    for (unsigned k = 0; k < groups * each; k++) {
+        leaf(x, 0x11, k % groups);
+        if (k > 0) join(x);
+    }
+}
+
+// Then one rule: a copy of group 0, unless one of group 1.
+static void balanced(instance **next, const char *family, unsigned left, unsigned right, unsigned each)
+{
+    instance *x = begin(next, family, 1024, 1024);
+    half(x, left, each);
+    half(x, right, each);
+    join(x);
+    add_leaf(x, 0x12, DONE);
+    put_link(x, HEAD, 0, DONE);
+    put_link(x, BARRING, 1, DONE);
+}
+
+size_t all_families(instance *instances)
+{
+    instance *next = instances;
+    for (uint64_t seed = 1; seed <= 4; seed++) chain(&next, "chain, 2 groups kept", 2, 2 + seed % 2, seed);
+    for (uint64_t seed = 1; seed <= 4; seed++) chain(&next, "chain, 3 groups kept", 3, 2 + seed % 2, seed);
+    circle(&next, "circle of needs, 63 copies", 63, NEEDED, 0);
+    circle(&next, "circle of needs, one pinned in", 63, NEEDED, 1);
+    circle(&next, "circle of bars, 62 copies", 62, BARRING, 0);
+    circle(&next, "circle of bars, 63 copies", 63, BARRING, 0);
+    saturation(&next, "saturation, 30 pairs, yes", 0, 1);
+    saturation(&next, "saturation, 30 pairs, no", 0, 0);
+    saturation(&next, "saturation, 15 and 15 pairs", 15, 1);
+    wide_saturation(&next, "wide saturation, 30 pairs, yes", 1);
+    wide_saturation(&next, "wide saturation, 30 pairs, no", 0);
+    for (uint64_t seed = 1; seed <= 8; seed++) random_policy(&next, "random, 12 copies", 12, seed);
+    for (uint64_t seed = 1; seed <= 8; seed++) random_policy(&next, "random, 24 copies", 24, seed);
+    for (uint64_t seed = 1; seed <= 8; seed++) random_policy(&next, "random, 40 copies", 40, seed);
+    balanced(&next, "balanced join, 128 by 32 pairs", 7, 5, 1);
+    balanced(&next, "balanced join, 243 by 243 pairs", 5, 5, 2);
+    return (size_t)(next - instances);
+}

@@ -1,0 +1,79 @@
+# The C side of the library: tests through the header, benchmark, example host, installation. The Makefile includes it.
+#
+#     make c-test [SANITIZE=1]     the tests of the archive (and, with SANITIZE, of their own memory use)
+#     make bench                   the benchmark, with clingo where it is installed
+#     make run [SHEET=file]        the example host on a sheet
+#     make install PREFIX=dir      archive, header and pkg-config file
+#
+# ARCHIVE=file tests another archive with the same calls.
+.PHONY: c-test bench run install FORCE
+
+ARCHIVE ?= target/staticlib/libnuntennis.a
+SHEET ?= examples/sheets/circle.hex
+PREFIX ?= /usr/local
+C_VERSION ?= 0.1
+
+C_OUT := target/c
+C_FLAGS := -std=c11 -O2 -g -Wall -Wextra -Werror -Iinclude -Itests -Ibench -Iexamples
+ifdef SANITIZE
+C_OUT := target/c-sanitized
+C_FLAGS += -fsanitize=address,undefined -fno-sanitize-recover=all
+endif
+
+C_BIN := $(C_OUT)/bin
+
+C_SUPPORT := tests/calls tests/lent tests/random tests/oracle tests/policy
+C_REFERENCE := bench/reference bench/tables
+C_TESTS := test_calls test_random test_walk test_sheets test_large test_stack
+
+test_calls_PARTS := tests/test_calls $(C_SUPPORT)
+test_random_PARTS := tests/test_random $(C_SUPPORT)
+test_walk_PARTS := tests/test_walk $(C_SUPPORT)
+test_sheets_PARTS := tests/test_sheets examples/sheet_file $(C_SUPPORT)
+test_large_PARTS := tests/test_large bench/families $(C_REFERENCE) $(C_SUPPORT)
+test_stack_PARTS := tests/test_stack bench/families
+bench_PARTS := bench/bench bench/families bench/clingo $(C_REFERENCE) tests/policy
+host_PARTS := examples/host examples/sheet_file
+
+# Under the sanitizers stack frames are larger than the library's own.
+c-test: $(C_TESTS:%=$(C_BIN)/%) $(C_BIN)/host
+	$(C_BIN)/test_calls
+	$(C_BIN)/test_random
+	$(C_BIN)/test_walk
+	$(C_BIN)/test_sheets examples/sheets/*.hex
+	$(C_BIN)/test_large
+	$(if $(SANITIZE),,$(C_BIN)/test_stack)
+	$(C_BIN)/host examples/sheets/office.hex
+
+bench: $(C_BIN)/bench
+	$(C_BIN)/bench
+
+# The host's status is 1 for no and 2 for refused: neither is a fault of the run.
+run: $(C_BIN)/host
+	@$(C_BIN)/host $(SHEET) || [ $$? -le 2 ]
+
+install: $(ARCHIVE)
+	install -d $(DESTDIR)$(PREFIX)/lib/pkgconfig $(DESTDIR)$(PREFIX)/include
+	install -m 644 $(ARCHIVE) $(DESTDIR)$(PREFIX)/lib/libnuntennis.a
+	install -m 644 include/nuntennis.h $(DESTDIR)$(PREFIX)/include/nuntennis.h
+	sed -e 's|@PREFIX@|$(PREFIX)|' -e 's|@VERSION@|$(C_VERSION)|' nuntennis.pc.in > $(DESTDIR)$(PREFIX)/lib/pkgconfig/nuntennis.pc
+
+target/staticlib/libnuntennis.a: FORCE
+	rt staticlib nuntennis
+
+FORCE:
+
+define C_PROGRAM
+$(C_BIN)/$(1): $$($(1)_PARTS:%=$(C_OUT)/%.o) $(ARCHIVE)
+	@mkdir -p $$(@D)
+	$$(CC) $$(C_FLAGS) $$^ -pthread -ldl -o $$@
+endef
+$(foreach p,$(C_TESTS) bench host,$(eval $(call C_PROGRAM,$(p))))
+
+$(C_REFERENCE:%=$(C_OUT)/%.o): C_FLAGS += -O3
+
+$(C_OUT)/%.o: %.c
+	@mkdir -p $(@D)
+	$(CC) $(C_FLAGS) -MMD -c $< -o $@
+
+-include $(wildcard $(C_OUT)/*/*.d)

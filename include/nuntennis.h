@@ -1,0 +1,273 @@
+/*
+ * Nuntennis: does a backup policy have a grounded plan?
+ *
+ * This header is the manual. Link with libnuntennis.a (pkg-config: nuntennis).
+ *
+ * The library allocates nothing, keeps no state, does no input or output and never aborts: every call ends with an answer for any
+ * bytes, limits, pins and lengths. Calls on separate buffers may run at the same time. A call uses under NUNTENNIS_STACK_BYTES of stack.
+ *
+ *
+ * THE SHEET
+ *
+ * A policy comes as a sheet: at most 4096 bytes, one command byte each time, then operands of one byte. A group is 0 to 7. Command
+ * bytes are hexadecimal here; every other number is decimal.
+ *
+ *     11 g      a new copy in group g; copies are numbered from 0 in the order in which they appear (at most 63)
+ *     12 g      a new rule in group g, its three sets empty (at most 256)
+ *     21        join the two newest parts into one
+ *     31 i j    in the newest part everything of group i moves to group j
+ *     41 i j    in the newest part every copy of group i goes into the head set of every rule of group j
+ *     42 i j    .. into the needed set
+ *     43 i j    .. into the barring set
+ *
+ * 11 and 12 put a new part on the stack (at most 8 at a time); a whole sheet leaves one part.
+ *
+ * A plan is a set of copies. It meets a rule if some needed copy is missing, or some barring copy is present, or some head copy is
+ * present. It is grounded if it meets every rule, and no smaller plan (a proper subset) meets every rule that is left once the rules
+ * with a barring copy in the plan are struck out and the other barring sets are emptied. In other words: it is an answer set.
+ *
+ *
+ * PARAMETERS THAT ALL CALLS SHARE
+ *
+ *   sheet, sheet_len           the bytes of the sheet; only read
+ *   plan_limit  (P)            the most pairs that a table may have, 1 to 1024
+ *   subset_limit (G)           the most subsets that a pair may have, 1 to 1024
+ *   pins_in, pins_out          bit c is copy c: the plan has every copy of pins_in and none of pins_out
+ *   workspace, workspace_len   lent words, at least NUNTENNIS_WORKSPACE_WORDS(P, G); they may hold anything before a decision or report
+ *   answer, answer_len         at least three words: kind, value, place (see ANSWERS)
+ *
+ * A length counts elements, not bytes. A pointer is not NULL and is aligned for its type, also where its length is 0. The buffers of
+ * one call do not overlap.
+ *
+ * Every call returns 1, and then answer[0] to answer[2] are written and later words of answer keep their values; or it returns 0 where
+ * answer_len is under three, and then nothing at all is read or written and no decision is made.
+ *
+ *
+ * ANSWERS
+ *
+ *   answer[0]  kind       answer[1]  value                     answer[2]  place           given by
+ *   0  no                 0                                    0                          grounded, plain, verdict
+ *   1  yes                grounded: the plan, bit c is copy c   0                          grounded, plain, verdict
+ *                         plain, verdict: 0
+ *   1  reported           entries written                      words written              report, plain_report
+ *   2  refused            the refusal's number                 the refusal's place        all
+ *   3  moved              0                                    0                          start, step
+ *   4  ended              0                                    0                          step
+ *
+ * Any grounded plan that obeys the pins may be the plan of a yes; no bit beyond the sheet's copies is set in it.
+ *
+ *
+ * REFUSALS
+ *
+ *   No. Word           Given when                                              Place
+ *    1  overlong       the sheet is over 4096 bytes                            0
+ *    2  limits         P or G is outside 1 to 1024                             0
+ *    3  cramped        workspace_len is under 9*P*(G+2)                        0
+ *    4  clash          a copy is pinned in and out (any bit, 63 included)      0
+ *    5  unknown        no such command byte                                    offset of that command
+ *    6  cut            operands are missing                                    offset of that command
+ *    7  group          an operand is over 7                                    offset of that command
+ *    8  same           i equals j                                              offset of that command
+ *    9  crowded        a 64th copy or a 257th rule                             offset of that command
+ *   10  deep           a ninth part                                            offset of that command
+ *   11  bare           21 with under two parts; 31, 41, 42, 43 with none       offset of that command
+ *   12  unjoined       not exactly one part at the end                         sheet_len
+ *   13  absent         a pin on a copy that the sheet lacks, bit 63 included   sheet_len
+ *   14  offset         reports: no command starts at the offset asked          the offset asked
+ *   15  subsets full   a pair of the table here has over G subsets             offset of the command that makes the table
+ *   16  plans full     the table here has over P entries                       offset of the command that makes the table
+ *   17  report short   report_len is under the words needed                    the offset asked
+ *   18  record         step, verdict: record or workspace lack the form that   the record's place
+ *                      ONE COMMAND A CALL says; verdict: not at the end yet
+ *
+ * They are tested in this order: 1 to 4; then the whole sheet is read, and the first faulty command gives the lowest of 5 to 11 that
+ * applies to it; then 12, 13, and 14 or 18; then the tables command by command, at each command 15 before 16; then 17. plain and
+ * plain_report never give 15.
+ *
+ *
+ * WHAT A CALL LEAVES IN THE BUFFERS (NEED is NUNTENNIS_WORKSPACE_WORDS(P, G))
+ *
+ *   Outcome                               first NEED words of workspace   report                record
+ *   decision, report: yes, no, reported   all zero                        only words written    -
+ *   decision, report: 15, 16, 17          all zero                        unchanged             -
+ *   start: moved                          all zero                        -                     place 0, no tables, all counts 0
+ *   step: moved                           the tables after the command    -                     the state after the command
+ *   step: ended, 15, 16                   unchanged                       -                     unchanged
+ *   verdict                               unchanged                       -                     unchanged
+ *   any call: 1 to 14, 18                 unchanged                       unchanged             unchanged
+ *
+ * Words of workspace past the first NEED are never read or written. Words of report are only written, and none past those of the report.
+ */
+#ifndef NUNTENNIS_H
+#define NUNTENNIS_H
+
+#include <stddef.h>
+#include <stdint.h>
+
+#ifdef __cplusplus
+extern "C" {
+#endif
+
+#define NUNTENNIS_SHEET_BYTES 4096  /* the longest sheet */
+#define NUNTENNIS_GROUPS 8
+#define NUNTENNIS_COPIES 63         /* the most copies of a sheet */
+#define NUNTENNIS_RULES 256         /* the most rules of a sheet */
+#define NUNTENNIS_PARTS 8           /* the most parts at a time */
+#define NUNTENNIS_LIMIT 1024        /* the most that P and G may be */
+#define NUNTENNIS_ANSWER_WORDS 3
+#define NUNTENNIS_STACK_BYTES 131072
+
+/* Words of 32 bits that a call needs as workspace, for P and G from 1 to 1024: a constant expression if they are. */
+#define NUNTENNIS_WORKSPACE_WORDS(P, G) ((size_t)9 * (size_t)(P) * ((size_t)(G) + 2))
+
+/* Words of 32 bits that no report is longer than. */
+#define NUNTENNIS_REPORT_WORDS(P, G) ((size_t)(P) * ((size_t)(G) + 2))
+#define NUNTENNIS_PLAIN_REPORT_WORDS(P) ((size_t)(P))
+
+/* answer[0] */
+enum {
+    NUNTENNIS_NO = 0,
+    NUNTENNIS_YES = 1,
+    NUNTENNIS_REPORTED = 1,
+    NUNTENNIS_REFUSED = 2,
+    NUNTENNIS_MOVED = 3,
+    NUNTENNIS_ENDED = 4
+};
+
+/* answer[1] where answer[0] is NUNTENNIS_REFUSED */
+enum {
+    NUNTENNIS_OVERLONG = 1,
+    NUNTENNIS_LIMITS = 2,
+    NUNTENNIS_CRAMPED = 3,
+    NUNTENNIS_CLASH = 4,
+    NUNTENNIS_UNKNOWN = 5,
+    NUNTENNIS_CUT = 6,
+    NUNTENNIS_GROUP = 7,
+    NUNTENNIS_SAME = 8,
+    NUNTENNIS_CROWDED = 9,
+    NUNTENNIS_DEEP = 10,
+    NUNTENNIS_BARE = 11,
+    NUNTENNIS_UNJOINED = 12,
+    NUNTENNIS_ABSENT = 13,
+    NUNTENNIS_OFFSET = 14,
+    NUNTENNIS_SUBSETS_FULL = 15,
+    NUNTENNIS_PLANS_FULL = 16,
+    NUNTENNIS_REPORT_SHORT = 17,
+    NUNTENNIS_RECORD = 18
+};
+
+/*
+ * DECISIONS
+ *
+ * nuntennis_grounded: is there a grounded plan that obeys the pins? A yes shows one. Pins bind the plan, never the smaller plans that
+ * it is compared with. No, exactly when there is none.
+ *
+ * nuntennis_plain: is there a plan that meets every rule and obeys the pins? It shows none. P limits the triples of a table; G only
+ * counts for refusals 2 and 3.
+ *
+ * Example: one copy and one rule that makes it. The plan {copy 0} is mask 1.
+ *
+ *     static const uint8_t sheet[] = {0x11, 0x00, 0x12, 0x01, 0x21, 0x41, 0x00, 0x01};
+ *     static uint32_t workspace[NUNTENNIS_WORKSPACE_WORDS(32, 32)];
+ *     uint64_t answer[NUNTENNIS_ANSWER_WORDS];
+ *
+ *     nuntennis_grounded(sheet, sizeof sheet, 32, 32, 0, 0, workspace, NUNTENNIS_WORKSPACE_WORDS(32, 32), answer, 3);
+ *     if (answer[0] == NUNTENNIS_YES) printf("plan %llx\n", (unsigned long long)answer[1]);                      // plan 1
+ *     if (answer[0] == NUNTENNIS_REFUSED) printf("refusal %d at byte %d\n", (int)answer[1], (int)answer[2]);
+ */
+uint64_t nuntennis_grounded(const uint8_t *sheet, size_t sheet_len,
+                            uint64_t plan_limit, uint64_t subset_limit, uint64_t pins_in, uint64_t pins_out,
+                            uint32_t *workspace, size_t workspace_len,
+                            uint64_t *answer, size_t answer_len);
+
+uint64_t nuntennis_plain(const uint8_t *sheet, size_t sheet_len,
+                         uint64_t plan_limit, uint64_t subset_limit, uint64_t pins_in, uint64_t pins_out,
+                         uint32_t *workspace, size_t workspace_len,
+                         uint64_t *answer, size_t answer_len);
+
+/*
+ * REPORTS
+ *
+ * The table after the command that starts at byte `asked`, that is the table of the part that this command leaves newest. The whole
+ * sheet is read and checked first; tables are built up to that command and no further.
+ *
+ * A triple is three sets of groups as one number, T + 256*F + 65536*U, where group g counts 2^g in its set. T: groups with a copy in
+ * the plan. F: groups with a copy outside it. U: groups with an unmet rule. A pair is a triple Q of a plan, with the triples of its
+ * smaller plans, its subsets. Equal pairs count once.
+ *
+ * nuntennis_report writes each pair as Q, number of subsets, subsets. Pairs come by rising Q, then by their subset lists (each list
+ * rising; compared place by place; a list before its longer continuations).
+ *
+ * nuntennis_plain_report writes the triples of the plain table, rising.
+ *
+ * For the sheet of the example above and asked = 5 (its link) the pair report is the five words 1 1 131328 131328 0, and the answer is
+ * 1, 2 entries, 5 words.
+ */
+uint64_t nuntennis_report(const uint8_t *sheet, size_t sheet_len, size_t asked,
+                          uint64_t plan_limit, uint64_t subset_limit, uint64_t pins_in, uint64_t pins_out,
+                          uint32_t *workspace, size_t workspace_len,
+                          uint32_t *report, size_t report_len,
+                          uint64_t *answer, size_t answer_len);
+
+uint64_t nuntennis_plain_report(const uint8_t *sheet, size_t sheet_len, size_t asked,
+                                uint64_t plan_limit, uint64_t subset_limit, uint64_t pins_in, uint64_t pins_out,
+                                uint32_t *workspace, size_t workspace_len,
+                                uint32_t *report, size_t report_len,
+                                uint64_t *answer, size_t answer_len);
+
+/*
+ * ONE COMMAND A CALL
+ *
+ * For a progress bar: a running record, lent by the host, advances by exactly one command at each call.
+ *
+ *     nuntennis_record record;
+ *     nuntennis_start(&record, workspace, words, sheet, sheet_len, P, G, 0, 0, answer, 3);
+ *     while (answer[0] == NUNTENNIS_MOVED) {
+ *         draw(record.place, sheet_len);
+ *         nuntennis_step(&record, workspace, words, sheet, sheet_len, P, G, 0, 0, answer, 3);
+ *     }
+ *     if (answer[0] == NUNTENNIS_ENDED)
+ *         nuntennis_verdict(&record, workspace, words, sheet, sheet_len, P, G, 0, 0, answer, 3);
+ *
+ * Give each call the same sheet, limits and pins, and leave record and workspace alone in between. Then the workspace holds the tables
+ * of the parts after each step, and the walk ends with the yes or no of nuntennis_grounded, or stays at the command where that gives 15
+ * or 16 and answers the same refusal. The verdict shows no plan: call nuntennis_grounded for one.
+ *
+ * Between calls table t (t = 0 is the oldest part) begins at word t*P*(G+2) and has counts[t] pairs in report order. A pair takes G+2
+ * words: Q, number of subsets, subsets, zeros. All other words of the first 9*P*(G+2) are zero.
+ *
+ * nuntennis_step and nuntennis_verdict test this form (refusal 18), and only the form: the place is a command's start or the end; the
+ * number of tables is what the commands before it leave; counts beyond that number are zero; each table has 1 to P pairs in strictly
+ * rising report order, each with at most G strictly rising subsets, all triples under 2^24; every other needed word is zero. A command
+ * acts on the tables found.
+ *
+ * nuntennis_start     checks 1 to 13, zeroes the first 9*P*(G+2) words, and makes a record at place 0 with no tables: moved.
+ * nuntennis_step      checks 1 to 13, then 18; runs the command at the record's place: moved. At the end: ended. 15 and 16 stay there.
+ * nuntennis_verdict   checks 1 to 13, then 18, also where the place is not the end; reads yes or no from the final table.
+ */
+typedef struct nuntennis_record {
+    uint64_t place;     /* offset of the next command; sheet_len at the end */
+    uint64_t tables;    /* number of tables */
+    uint64_t counts[NUNTENNIS_PARTS]; /* pairs of each table */
+} nuntennis_record;
+
+uint64_t nuntennis_start(nuntennis_record *record, uint32_t *workspace, size_t workspace_len,
+                         const uint8_t *sheet, size_t sheet_len,
+                         uint64_t plan_limit, uint64_t subset_limit, uint64_t pins_in, uint64_t pins_out,
+                         uint64_t *answer, size_t answer_len);
+
+uint64_t nuntennis_step(nuntennis_record *record, uint32_t *workspace, size_t workspace_len,
+                        const uint8_t *sheet, size_t sheet_len,
+                        uint64_t plan_limit, uint64_t subset_limit, uint64_t pins_in, uint64_t pins_out,
+                        uint64_t *answer, size_t answer_len);
+
+uint64_t nuntennis_verdict(const nuntennis_record *record, const uint32_t *workspace, size_t workspace_len,
+                           const uint8_t *sheet, size_t sheet_len,
+                           uint64_t plan_limit, uint64_t subset_limit, uint64_t pins_in, uint64_t pins_out,
+                           uint64_t *answer, size_t answer_len);
+
+#ifdef __cplusplus
+}
+#endif
+
+#endif

@@ -1,0 +1,182 @@
+// Lends the buffers, makes the call, and compares what is left in each of them with what 01 says.
+#define _DEFAULT_SOURCE
+#include "calls.h"
+
+#include "lent.h"
+#include "nuntennis.h"
+
+#include <inttypes.h>
+#include <signal.h>
+#include <stdarg.h>
+#include <stdio.h>
+#include <stdlib.h>
+#include <string.h>
+#include <unistd.h>
+
+const char *case_name = "";
+uint64_t case_number;
+
+static const char *const names[CALLS] = {"nuntennis_grounded", "nuntennis_plain", "nuntennis_report", "nuntennis_plain_report"};
+
+// ---- what went wrong
+
+static void print_pins(const char *word, uint64_t pins)
+{
+    if (pins == 0) return;
+    printf("#: pins %s", word);
+    for (unsigned c = 0; c < 64; c++)
+        if (pins >> c & 1) printf(" %u", c);
+    printf("\n");
+}
+
+static void print_request(const oracle_request *r)
+{
+    printf("# %s, case %" PRIu64 "\n", case_name, case_number);
+    printf("# workspace %zu words, asked %zu, report %zu words, answer %zu words\n", r->workspace_len, r->asked, r->report_len,
+           r->answer_len);
+    printf("#: limits %" PRIu64 " %" PRIu64 "\n", r->plan_limit, r->subset_limit);
+    print_pins("in", r->pins_in);
+    print_pins("out", r->pins_out);
+    for (size_t k = 0; k < r->sheet_len; k++) printf("%02X%c", r->sheet[k], k % 24 == 23 || k + 1 == r->sheet_len ? '\n' : ' ');
+}
+
+_Noreturn void disagree(const char *call, const oracle_request *r, const char *format, ...)
+{
+    va_list arguments;
+    va_start(arguments, format);
+    printf("DISAGREEMENT in %s: ", call);
+    vprintf(format, arguments);
+    printf("\n");
+    va_end(arguments);
+    print_request(r);
+    fflush(stdout);
+    _exit(1);
+}
+
+static const char *running;
+static const oracle_request *running_on;
+
+void watch(const char *call, const oracle_request *r)
+{
+    running = call;
+    running_on = r;
+}
+
+static void on_fault(int signal)
+{
+    if (running) disagree(running, running_on, "signal %d: a word outside the lent buffers was touched", signal);
+    _exit(1);
+}
+
+// ---- the buffers
+
+static lent sheet_room, workspace_room, report_room, answer_room;
+
+void calls_begin(void)
+{
+    sheet_room = lent_new(8192);
+    workspace_room = lent_new((NUNTENNIS_WORKSPACE_WORDS(1024, 1024) + 64) * 4);
+    report_room = lent_new((NUNTENNIS_REPORT_WORDS(1024, 1024) + 64) * 4);
+    answer_room = lent_new(8 * 16);
+    signal(SIGSEGV, on_fault);
+    signal(SIGBUS, on_fault);
+}
+
+size_t need_of(const oracle_request *r)
+{
+    if (r->plan_limit < 1 || r->plan_limit > 1024 || r->subset_limit < 1 || r->subset_limit > 1024) return 200;
+    return NUNTENNIS_WORKSPACE_WORDS(r->plan_limit, r->subset_limit);
+}
+
+typedef struct { const uint8_t *sheet; uint32_t *workspace, *report; uint64_t *answer; } buffers;
+
+static uint64_t make_call(call c, const oracle_request *r, const buffers *b)
+{
+    switch (c) {
+    case CALL_GROUNDED:
+        return nuntennis_grounded(b->sheet, r->sheet_len, r->plan_limit, r->subset_limit, r->pins_in, r->pins_out, b->workspace,
+                                  r->workspace_len, b->answer, r->answer_len);
+    case CALL_PLAIN:
+        return nuntennis_plain(b->sheet, r->sheet_len, r->plan_limit, r->subset_limit, r->pins_in, r->pins_out, b->workspace,
+                               r->workspace_len, b->answer, r->answer_len);
+    case CALL_REPORT:
+        return nuntennis_report(b->sheet, r->sheet_len, r->asked, r->plan_limit, r->subset_limit, r->pins_in, r->pins_out, b->workspace,
+                                r->workspace_len, b->report, r->report_len, b->answer, r->answer_len);
+    default:
+        return nuntennis_plain_report(b->sheet, r->sheet_len, r->asked, r->plan_limit, r->subset_limit, r->pins_in, r->pins_out,
+                                      b->workspace, r->workspace_len, b->report, r->report_len, b->answer, r->answer_len);
+    }
+}
+
+static buffers lend_all(const oracle_request *r, uint64_t seed)
+{
+    uint8_t *sheet = lend(&sheet_room, r->sheet_len, seed);
+    memcpy(sheet, r->sheet, r->sheet_len);
+    return (buffers){sheet, lend(&workspace_room, 4 * r->workspace_len, seed), lend(&report_room, 4 * r->report_len, seed),
+                     lend(&answer_room, 8 * r->answer_len, seed)};
+}
+
+// ---- the rules
+
+static bool is_zero(const uint32_t *words, size_t n)
+{
+    for (size_t k = 0; k < n; k++)
+        if (words[k] != 0) return false;
+    return true;
+}
+
+static void check_answer(call c, const oracle_request *r, const uint64_t *answer, oracle_answer want)
+{
+    bool is_plan = c == CALL_GROUNDED && want.kind == 1;
+    if (answer[0] == want.kind && (is_plan || answer[1] == want.value) && answer[2] == want.place) return;
+    disagree(names[c], r, "answer %" PRIu64 " %" PRIu64 " %" PRIu64 ", expected %" PRIu64 " %" PRIu64 " %" PRIu64, answer[0], answer[1],
+             answer[2], want.kind, want.value, want.place);
+}
+
+// Refusals 1 to 14 leave the workspace, all else clears what is needed of it.
+static void check_workspace(call c, const oracle_request *r, const buffers *b, oracle_answer want, uint64_t seed)
+{
+    bool is_cleared = want.kind != 2 || want.value >= 15;
+    size_t changed = is_cleared ? need_of(r) : 0;
+    if (!is_untouched(&workspace_room, 4 * r->workspace_len, 4 * changed, seed))
+        disagree(names[c], r, is_cleared ? "a workspace word past the need was changed" : "a refusal changed the workspace");
+    if (!is_zero(b->workspace, changed)) disagree(names[c], r, "the workspace is not zero in the words needed");
+}
+
+static void check_report(call c, const oracle_request *r, const buffers *b, const oracle_table *table, uint64_t seed)
+{
+    size_t words = table ? table->length : 0;
+    if (!is_untouched(&report_room, 4 * r->report_len, 4 * words, seed))
+        disagree(names[c], r, "the report's buffer was changed past the %zu words written", words);
+    for (size_t k = 0; k < words; k++)
+        if (b->report[k] != table->words[k])
+            disagree(names[c], r, "word %zu of the report is %" PRIu32 ", expected %" PRIu32, k, b->report[k], table->words[k]);
+}
+
+static void check_untouched(call c, const oracle_request *r, uint64_t seed)
+{
+    if (!is_untouched(&answer_room, 8 * r->answer_len, 0, seed)) disagree(names[c], r, "a short answer slice was changed");
+    if (!is_untouched(&workspace_room, 4 * r->workspace_len, 0, seed)) disagree(names[c], r, "a short answer slice, and a changed workspace");
+    if (!is_untouched(&report_room, 4 * r->report_len, 0, seed)) disagree(names[c], r, "a short answer slice, and a changed report");
+}
+
+uint64_t expect_call(call c, const oracle_request *r, oracle_answer want, const oracle_table *table)
+{
+    static uint64_t seed;
+    seed += 1000003;
+    buffers b = lend_all(r, seed);
+    watch(names[c], r);
+    uint64_t returned = make_call(c, r, &b);
+    watch(NULL, NULL);
+    if (returned != (r->answer_len >= 3)) disagree(names[c], r, "it returned %" PRIu64, returned);
+    if (r->sheet_len > 0 && memcmp(b.sheet, r->sheet, r->sheet_len) != 0) disagree(names[c], r, "the sheet was changed");
+    if (returned == 0) {
+        check_untouched(c, r, seed);
+        return 0;
+    }
+    check_answer(c, r, b.answer, want);
+    if (!is_untouched(&answer_room, 8 * r->answer_len, 24, seed)) disagree(names[c], r, "an answer word past the third was changed");
+    check_workspace(c, r, &b, want, seed);
+    check_report(c, r, &b, table, seed);
+    return want.kind == 1 ? b.answer[1] : 0;
+}

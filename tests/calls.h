@@ -1,0 +1,28 @@
+// One call of the archive on lent buffers full of noise, held to document 01's rules for answer, workspace and report.
+#ifndef CALLS_H
+#define CALLS_H
+
+#include "oracle.h"
+
+typedef enum { CALL_GROUNDED, CALL_PLAIN, CALL_REPORT, CALL_PLAIN_REPORT, CALLS } call;
+
+// Which case is being tried: printed with a disagreement.
+extern const char *case_name;
+extern uint64_t case_number;
+
+void calls_begin(void);
+
+// Makes the call. The answer must be the one wanted, the plan of a yes apart, which is given back; all buffers must be as 01 says.
+// A wanted report is the table's words.
+uint64_t expect_call(call c, const oracle_request *r, oracle_answer want, const oracle_table *table);
+
+// The call that is running, NULL for none: named should it touch a page that it may not.
+void watch(const char *call, const oracle_request *r);
+
+// Prints the case as a sheet file, what is wrong with it, and ends the program with status 1.
+_Noreturn void disagree(const char *call, const oracle_request *r, const char *format, ...);
+
+// Words of workspace needed; for limits outside 1 to 1024 some number.
+size_t need_of(const oracle_request *r);
+
+#endif

@@ -1,0 +1,32 @@
+// The policy that a sheet builds, and what its plans are, from the rules' meaning alone.
+#ifndef POLICY_H
+#define POLICY_H
+
+#include <stdbool.h>
+#include <stddef.h>
+#include <stdint.h>
+
+typedef struct { unsigned code, i, j; size_t offset, next; } policy_command;
+
+// Atoms and rules of all parts; part 0 is the oldest.
+typedef struct {
+    unsigned atoms, rules, parts;
+    uint8_t atom_label[64], atom_part[64];
+    uint8_t rule_label[256], rule_part[256];
+    uint64_t head[256], positive[256], negative[256];
+} policy;
+
+// The refusal from 5 to 11 of the command at an offset inside the sheet, or 0; and the command, where it is 0.
+unsigned policy_fault(const uint8_t *sheet, size_t sheet_len, size_t at, const policy *before);
+policy_command policy_command_at(const uint8_t *sheet, size_t at);
+
+void policy_apply(policy *p, const policy_command *c);
+
+// The policy of a sheet that passes checks 1 to 12.
+void policy_build(policy *p, const uint8_t *sheet, size_t sheet_len);
+
+bool policy_obeys(uint64_t interpretation, uint64_t pins_in, uint64_t pins_out);
+bool policy_is_model(const policy *p, uint64_t interpretation);
+bool policy_is_answer_set(const policy *p, uint64_t interpretation);
+
+#endif

@@ -1,0 +1,26 @@
+// Pseudo-random numbers with a fixed start, and sheets made of them.
+#ifndef RANDOM_H
+#define RANDOM_H
+
+#include <stddef.h>
+#include <stdint.h>
+
+typedef struct { uint64_t state; } random_source;
+
+uint64_t random_next(random_source *r);
+unsigned random_below(random_source *r, unsigned n); // n is not 0
+
+// Each of the low bits set with one chance in so many.
+uint64_t random_mask(random_source *r, unsigned bits, unsigned one_in);
+
+enum { RANDOM_SHEET_ROOM = 4200 };
+
+// A sheet without faults: so many copies and rules, in groups below `labels`
+// (2 to 8 for parts, 1 to 6 for a policy). Parts are joined and linked anyhow; a policy is written rule by rule.
+size_t random_parts(random_source *r, uint8_t *sheet, unsigned atoms, unsigned rules, unsigned labels);
+size_t random_policy(random_source *r, uint8_t *sheet, unsigned atoms, unsigned rules, unsigned labels);
+
+// Changes, drops or adds a few bytes or commands.
+size_t random_damage(random_source *r, uint8_t *sheet, size_t sheet_len);
+
+#endif

@@ -1,0 +1,272 @@
+// Decisions and reports with known answers: document 01's sheets to try, the order of its checks, the limits of a sheet, short buffers.
+#include "calls.h"
+
+#include <inttypes.h>
+#include <stdio.h>
+#include <string.h>
+
+// ---- sheets with known answers
+
+typedef struct {
+    const char *name, *hex;
+    uint64_t plan_limit, subset_limit, pins_in, pins_out;
+    oracle_answer grounded;
+    uint64_t other_plan; // may be shown as well
+    oracle_answer plain;
+} trial;
+
+#define CIRCLE "11 00 11 01 21 12 02 21 12 03 21 41 00 02 42 01 02 41 01 03 42 00 03"
+#define LISTED "11 00 12 01 21 41 00 01"
+#define EITHER "11 00 11 00 21 12 01 21 41 00 01"
+#define NINE "11 00 11 00 11 00 11 00 11 00 11 00 11 00 11 00 11 00"
+// Copy 0 bars three rules that tell copies 2 to 4 apart, so the plans without it have more subsets.
+#define WIDER_WITHOUT \
+    "11 04 12 01 21 12 02 21 12 03 21 43 04 01 43 04 02 43 04 03 11 06 21" \
+    "11 05 21 41 05 01 31 05 00 11 05 21 41 05 02 31 05 00 11 05 21 41 05 03 31 05 00 11 05 11 07 21 21"
+#define YES(plan) {1, plan, 0}
+#define NO {0, 0, 0}
+#define REFUSED(number, place) {2, number, place}
+#define BIT63 ((uint64_t)1 << 63)
+
+static const trial trials[] = {
+    // 01, "Sheets to try"
+    {"the listed sheet", LISTED, 32, 32, 0, 0, YES(1), 1, YES(0)},
+    {"pin in on copy 1", LISTED, 32, 32, 2, 0, REFUSED(13, 8), 0, REFUSED(13, 8)},
+    {"pin out on copy 1", LISTED, 32, 32, 0, 2, REFUSED(13, 8), 0, REFUSED(13, 8)},
+    {"CIRCLE", CIRCLE, 32, 32, 0, 0, YES(0), 0, YES(0)},
+    {"CIRCLE, copy 0 pinned in", CIRCLE, 32, 32, 1, 0, NO, 0, YES(0)},
+    {"CIRCLE, copy 0 pinned in, the largest workspace", CIRCLE, 1024, 1024, 1, 0, NO, 0, YES(0)},
+    {"made unless kept", LISTED " 43 00 01", 32, 32, 0, 0, NO, 0, YES(0)},
+    {"either of two", EITHER, 32, 32, 0, 0, YES(1), 2, YES(0)},
+    {"both of two", EITHER, 32, 32, 3, 0, NO, 0, YES(0)},
+    {"a bare rule", "12 00", 32, 32, 0, 0, NO, 0, NO},
+    {"empty", "", 32, 32, 0, 0, REFUSED(12, 0), 0, REFUSED(12, 0)},
+    {"only a join", "21", 32, 32, 0, 0, REFUSED(11, 0), 0, REFUSED(11, 0)},
+    {"group 7", "11 07", 32, 32, 0, 0, YES(0), 0, YES(0)},
+    {"group 8", "11 08", 32, 32, 0, 0, REFUSED(7, 0), 0, REFUSED(7, 0)},
+    {"cut", "41 00", 32, 32, 0, 0, REFUSED(6, 0), 0, REFUSED(6, 0)},
+    {"same", "41 00 00", 32, 32, 0, 0, REFUSED(8, 0), 0, REFUSED(8, 0)},
+    {"P = 1", "11 00", 1, 32, 0, 0, REFUSED(16, 0), 0, REFUSED(16, 0)},
+    {"P = 1, pinned out", "11 00", 1, 32, 0, 1, YES(0), 0, YES(0)},
+    {"P = 3, G = 2", "11 00 11 00 21", 3, 2, 0, 0, YES(0), 0, YES(0)},
+    {"P = 2", "11 00 11 00 21", 2, 2, 0, 0, REFUSED(16, 4), 0, REFUSED(16, 4)},
+    {"P = 2, G = 32", "11 00 11 00 21", 2, 32, 0, 0, REFUSED(16, 4), 0, REFUSED(16, 4)},
+    {"P = 2, G = 1", "11 00 11 00 21", 2, 1, 0, 0, REFUSED(15, 4), 0, REFUSED(16, 4)},
+    {"P = 3, G = 1", "11 00 11 00 21", 3, 1, 0, 0, REFUSED(15, 4), 0, YES(0)},
+    {"P = 1024, G = 1", "11 00 11 00 21", 1024, 1, 0, 0, REFUSED(15, 4), 0, YES(0)},
+    {"nine parts", NINE, 32, 32, 0, 0, REFUSED(10, 16), 0, REFUSED(10, 16)},
+    {"two parts", "11 00 11 01", 32, 32, 0, 0, REFUSED(12, 4), 0, REFUSED(12, 4)},
+    {"clash, empty sheet", "", 32, 32, 1, 1, REFUSED(4, 0), 0, REFUSED(4, 0)},
+    // the order of the checks
+    {"operands missing before a group", "41 08", 32, 32, 0, 0, REFUSED(6, 0), 0, REFUSED(6, 0)},
+    {"a group before same", "41 08 08", 32, 32, 0, 0, REFUSED(7, 0), 0, REFUSED(7, 0)},
+    {"a second group", "11 00 31 00 08", 32, 32, 0, 0, REFUSED(7, 2), 0, REFUSED(7, 2)},
+    {"same before bare", "31 03 03", 32, 32, 0, 0, REFUSED(8, 0), 0, REFUSED(8, 0)},
+    {"a link on nothing", "41 00 01", 32, 32, 0, 0, REFUSED(11, 0), 0, REFUSED(11, 0)},
+    {"a move on nothing", "31 00 01", 32, 32, 0, 0, REFUSED(11, 0), 0, REFUSED(11, 0)},
+    {"a join of one part", "11 00 21", 32, 32, 0, 0, REFUSED(11, 2), 0, REFUSED(11, 2)},
+    {"unknown byte", "11 00 51", 32, 32, 0, 0, REFUSED(5, 2), 0, REFUSED(5, 2)},
+    {"clash on bit 63", LISTED, 32, 32, BIT63, BIT63, REFUSED(4, 0), 0, REFUSED(4, 0)},
+    {"pin on bit 63", LISTED, 32, 32, BIT63, 0, REFUSED(13, 8), 0, REFUSED(13, 8)},
+    {"unjoined before absent", "11 00 11 01", 32, 32, BIT63, 0, REFUSED(12, 4), 0, REFUSED(12, 4)},
+    {"limits before clash", "", 0, 32, 1, 1, REFUSED(2, 0), 0, REFUSED(2, 0)},
+    {"G over 1024", LISTED, 32, 1025, 0, 0, REFUSED(2, 0), 0, REFUSED(2, 0)},
+    {"P of 2^32 and 1", LISTED, ((uint64_t)1 << 32) + 1, 32, 0, 0, REFUSED(2, 0), 0, REFUSED(2, 0)},
+    {"the greatest G", LISTED, 32, UINT64_MAX, 0, 0, REFUSED(2, 0), 0, REFUSED(2, 0)},
+    {"15 past the P-th pair", "11 02 11 04 21", 3, 1, 0, 0, REFUSED(15, 4), 0, REFUSED(16, 4)},
+    {"15 at the pair with the greatest Q, past the P-th", "11 00 11 01 21 12 02 21 42 00 02 42 01 02 11 03 21", 4, 3, 0, 0,
+     REFUSED(15, 16), 0, REFUSED(16, 16)},
+    {"15 at a pair of a plan with fewer copies, past the P-th", WIDER_WITHOUT, 4, 47, 28, 0, REFUSED(15, 55), 0, REFUSED(16, 55)},
+    {"that table under the least G", WIDER_WITHOUT, 16, 63, 28, 0, YES(28), 28, YES(0)},
+    {"16 in an older part", "11 00 11 01 21 11 02 21", 3, 32, 0, 0, REFUSED(16, 4), 0, REFUSED(16, 4)},
+};
+
+static size_t read_hex(const char *hex, uint8_t *bytes)
+{
+    size_t n = 0;
+    unsigned byte;
+    int used;
+    while (sscanf(hex, "%2x%n", &byte, &used) == 1) {
+        bytes[n++] = (uint8_t)byte;
+        hex += used;
+    }
+    return n;
+}
+
+static bool is_equal(oracle_answer a, oracle_answer b)
+{
+    return a.kind == b.kind && a.value == b.value && a.place == b.place;
+}
+
+// The oracle is itself held to the answers of 01.
+static void check_oracle(const oracle_request *r, const trial *t)
+{
+    bool is_read = oracle_check(r).kind != 2;
+    oracle_history h = {0, NULL, {0}};
+    if (is_read) h = oracle_walk(r->sheet, r->sheet_len, r->pins_in, r->pins_out);
+    oracle_answer grounded = oracle_grounded(r, &h), plain = oracle_plain(r, &h);
+    if (grounded.kind == 1) grounded.value = t->grounded.value;
+    if (!is_equal(grounded, t->grounded) || !is_equal(plain, t->plain)) disagree("the oracle", r, "%s", t->name);
+    if (grounded.kind == 1 && !(oracle_shows(r, &h, t->grounded.value) && oracle_shows(r, &h, t->other_plan)))
+        disagree("the oracle", r, "%s: not a plan that may be shown", t->name);
+    oracle_forget(&h);
+}
+
+static void try_sheet(const trial *t)
+{
+    uint8_t sheet[100];
+    oracle_request r = {sheet, read_hex(t->hex, sheet), t->plan_limit, t->subset_limit, t->pins_in, t->pins_out, 0, 0, 0, 3};
+    r.workspace_len = need_of(&r);
+    case_name = t->name;
+    check_oracle(&r, t);
+    uint64_t plan = expect_call(CALL_GROUNDED, &r, t->grounded, NULL);
+    if (t->grounded.kind == 1 && plan != t->grounded.value && plan != t->other_plan)
+        disagree("nuntennis_grounded", &r, "plan %" PRIu64 " shown", plan);
+    expect_call(CALL_PLAIN, &r, t->plain, NULL);
+}
+
+static void try_sheets(void)
+{
+    size_t n = sizeof trials / sizeof trials[0];
+    for (case_number = 0; case_number < n; case_number++) try_sheet(&trials[case_number]);
+    printf("sheets to try and orders of checks: %zu agree\n", n);
+}
+
+// ---- the listed table, reports and short buffers
+
+static void expect_report(call c, oracle_request *r, size_t asked, size_t report_len, oracle_answer want, const uint32_t *words)
+{
+    oracle_table table = {(uint32_t *)words, words ? want.place : 0, 0, 0};
+    r->asked = asked;
+    r->report_len = report_len;
+    expect_call(c, r, want, words ? &table : NULL);
+    r->report_len = 0;
+}
+
+static void try_listed_reports(void)
+{
+    static const uint32_t last[] = {1, 1, 131328, 131328, 0}, leaf[] = {1, 1, 256, 256, 0}, rule[] = {131072, 0};
+    static const uint32_t plain[] = {1, 131328};
+    uint8_t sheet[16];
+    oracle_request r = {sheet, read_hex(LISTED, sheet), 32, 32, 0, 0, 0, 0, 0, 3};
+    r.workspace_len = need_of(&r);
+    case_name = "reports of the listed sheet";
+    expect_report(CALL_REPORT, &r, 5, 5, (oracle_answer){1, 2, 5}, last);
+    expect_report(CALL_REPORT, &r, 5, 9, (oracle_answer){1, 2, 5}, last);
+    expect_report(CALL_REPORT, &r, 5, 4, (oracle_answer){2, 17, 5}, NULL);
+    expect_report(CALL_REPORT, &r, 5, 0, (oracle_answer){2, 17, 5}, NULL);
+    expect_report(CALL_REPORT, &r, 0, 5, (oracle_answer){1, 2, 5}, leaf);
+    expect_report(CALL_REPORT, &r, 2, 2, (oracle_answer){1, 1, 2}, rule);
+    expect_report(CALL_REPORT, &r, 1, 5, (oracle_answer){2, 14, 1}, NULL);
+    expect_report(CALL_REPORT, &r, 8, 5, (oracle_answer){2, 14, 8}, NULL);
+    expect_report(CALL_REPORT, &r, SIZE_MAX, 5, (oracle_answer){2, 14, SIZE_MAX}, NULL);
+    expect_report(CALL_PLAIN_REPORT, &r, 5, 2, (oracle_answer){1, 2, 2}, plain);
+    expect_report(CALL_PLAIN_REPORT, &r, 5, 1, (oracle_answer){2, 17, 5}, NULL);
+    expect_report(CALL_PLAIN_REPORT, &r, 6, 2, (oracle_answer){2, 14, 6}, NULL);
+    r.pins_in = 2; // 13 before 14
+    expect_report(CALL_REPORT, &r, 1, 5, (oracle_answer){2, 13, 8}, NULL);
+    printf("reports of the listed sheet: 13 agree\n");
+}
+
+static void try_short_buffers(void)
+{
+    uint8_t sheet[16];
+    oracle_request r = {sheet, read_hex(LISTED, sheet), 5, 4, 0, 0, 0, 5, 0, 3};
+    unsigned n = 0;
+    case_name = "short buffers";
+    for (call c = 0; c < CALLS; c++) {
+        r.report_len = c == CALL_REPORT || c == CALL_PLAIN_REPORT ? 20 : 0;
+        r.workspace_len = need_of(&r);
+        for (r.answer_len = 0; r.answer_len < 3; r.answer_len++, n++) expect_call(c, &r, (oracle_answer)NO, NULL);
+        r.answer_len = 3;
+        for (r.workspace_len = 0; r.workspace_len < need_of(&r); r.workspace_len += 27, n++)
+            expect_call(c, &r, (oracle_answer)REFUSED(3, 0), NULL);
+        r.workspace_len = need_of(&r) - 1;
+        expect_call(c, &r, (oracle_answer)REFUSED(3, 0), NULL);
+        n++;
+    }
+    printf("short answer slices and workspaces: %u agree\n", n);
+}
+
+// ---- the limits of a sheet
+
+// So many leaves of each kind, each joined to those before it except the last `apart` ones.
+static size_t leaves(uint8_t *sheet, unsigned atoms, unsigned rules, unsigned apart)
+{
+    size_t n = 0;
+    for (unsigned k = 0; k < atoms + rules; k++) {
+        sheet[n++] = k < rules ? 0x12 : 0x11;
+        sheet[n++] = k < rules ? 1 : 0;
+        if (k > 0 && k + apart < atoms + rules) sheet[n++] = 0x21;
+    }
+    return n;
+}
+
+// Moves there and back, to a given length.
+static size_t lengthen(uint8_t *sheet, size_t n, size_t end)
+{
+    static const uint8_t there[] = {0x31, 0x00, 0x02}, back[] = {0x31, 0x02, 0x00};
+    for (unsigned k = 0; n + 3 <= end; k++, n += 3) memcpy(sheet + n, k % 2 ? back : there, 3);
+    return n;
+}
+
+static void expect_both(oracle_request *r, const char *name, oracle_answer want)
+{
+    case_name = name;
+    r->workspace_len = need_of(r);
+    expect_call(CALL_GROUNDED, r, want, NULL);
+    expect_call(CALL_PLAIN, r, want, NULL);
+}
+
+static void try_limits(void)
+{
+    static uint8_t sheet[8192];
+    oracle_request r = {sheet, 0, 8, 8, 0, 0, 0, 0, 0, 3};
+    r.sheet_len = leaves(sheet, 63, 0, 0);
+    expect_both(&r, "63 copies", (oracle_answer)YES(0));
+    r.sheet_len = leaves(sheet, 64, 0, 0);
+    expect_both(&r, "64 copies", (oracle_answer)REFUSED(9, 188));
+    r.sheet_len = leaves(sheet, 1, 256, 0);
+    expect_both(&r, "256 rules", (oracle_answer)NO);
+    r.sheet_len = leaves(sheet, 0, 257, 0);
+    expect_both(&r, "257 rules", (oracle_answer)REFUSED(9, 767));
+    r.sheet_len = leaves(sheet, 64, 0, 8);
+    expect_both(&r, "64th copy, ninth part", (oracle_answer)REFUSED(9, r.sheet_len - 2));
+    r.sheet_len = leaves(sheet, 63, 0, 8);
+    expect_both(&r, "ninth part", (oracle_answer)REFUSED(10, r.sheet_len - 2));
+    r.sheet_len = lengthen(sheet, leaves(sheet, 3, 0, 0), 4096);
+    expect_both(&r, "4094 bytes, the longest without a fault", (oracle_answer)YES(0));
+    memcpy(sheet + 4094, "\x11\x00\x21", 3);
+    r.sheet_len = 4096;
+    expect_both(&r, "4096 bytes", (oracle_answer)REFUSED(12, 4096));
+    r.sheet_len = 4097;
+    expect_both(&r, "4097 bytes", (oracle_answer)REFUSED(1, 0));
+    r.plan_limit = 0;
+    expect_both(&r, "overlong before limits", (oracle_answer)REFUSED(1, 0));
+    printf("limits of a sheet: 20 agree\n");
+}
+
+// 15 at the join whatever P of at least 2 is.
+static void try_every_p(void)
+{
+    uint8_t sheet[16];
+    oracle_request r = {sheet, read_hex("11 00 11 00 21", sheet), 2, 1, 0, 0, 0, 0, 0, 3};
+    case_name = "G = 1 under every P";
+    for (; r.plan_limit <= 1024; r.plan_limit++) {
+        r.workspace_len = need_of(&r);
+        expect_call(CALL_GROUNDED, &r, (oracle_answer)REFUSED(15, 4), NULL);
+    }
+    printf("15 under every P of at least 2: 1023 agree\n");
+}
+
+int main(void)
+{
+    calls_begin();
+    try_sheets();
+    try_listed_reports();
+    try_short_buffers();
+    try_limits();
+    try_every_p();
+    printf("test_calls: all agree\n");
+    return 0;
+}

@@ -1,0 +1,187 @@
+// Decisions and reports on random sheets (sound, damaged, with tight limits, with pins) against the oracle.
+#include "calls.h"
+#include "random.h"
+
+#include <inttypes.h>
+#include <stdio.h>
+#include <stdlib.h>
+
+typedef struct { uint64_t sheets, calls, yes, no, reported, refused[19], ordered, short_answers; } tally;
+
+static void count(tally *n, const oracle_request *r, oracle_answer a, bool is_report)
+{
+    n->calls++;
+    if (r->answer_len < 3) n->short_answers++;
+    else if (a.kind == 2) n->refused[a.value]++;
+    else if (is_report) n->reported++;
+    else if (a.kind == 1) n->yes++;
+    else n->no++;
+}
+
+// Rows in which a longer subset list stands before a shorter one: the order is not that of the words written.
+static void count_ordered(tally *n, const oracle_table *t)
+{
+    for (const uint32_t *a = t->words, *b; (b = a + a[1] + 2) < t->words + t->length; a = b)
+        if (a[0] == b[0] && a[1] > b[1]) {
+            n->ordered++;
+            return;
+        }
+}
+
+static size_t random_sheet(random_source *s, uint8_t *sheet)
+{
+    unsigned atoms = random_below(s, 12) == 0 ? 7 + random_below(s, 3) : random_below(s, 7), rules = random_below(s, 7);
+    if (atoms + rules == 0) return 0;
+    size_t n = random_below(s, 2) ? random_parts(s, sheet, atoms, rules, 2 + random_below(s, 7))
+                                  : random_policy(s, sheet, atoms, rules, 1 + random_below(s, 6));
+    return random_below(s, 4) == 0 ? random_damage(s, sheet, n) : n;
+}
+
+static void random_pins(random_source *s, oracle_request *r)
+{
+    r->pins_in = r->pins_out = 0;
+    if (random_below(s, 2)) return;
+    r->pins_in = random_mask(s, 6, 5);
+    r->pins_out = random_mask(s, 6, 5) & ~r->pins_in;
+    if (random_below(s, 20) == 0) r->pins_in |= r->pins_out;
+    if (random_below(s, 20) == 0) r->pins_out |= (uint64_t)1 << random_below(s, 64);
+}
+
+// Copies of a sheet that passes checks 1 to 12.
+static unsigned atoms_of(const oracle_request *r)
+{
+    policy p;
+    policy_build(&p, r->sheet, r->sheet_len);
+    return p.atoms;
+}
+
+// Drops the pins on copies that the sheet lacks.
+static void fit_pins(oracle_request *r)
+{
+    uint64_t all = ((uint64_t)1 << atoms_of(r)) - 1;
+    r->pins_in &= all;
+    r->pins_out &= all;
+}
+
+static uint64_t random_limit(random_source *s, uint64_t need)
+{
+    static const uint64_t odd[] = {0, 1025, ((uint64_t)1 << 32) + 7, UINT64_MAX};
+    unsigned choice = random_below(s, 64);
+    if (choice == 0) return odd[random_below(s, 4)];
+    if (choice < 8 && need > 1) return need - 1;
+    if (choice < 16) return 1 + random_below(s, (unsigned)need);
+    return need + (choice < 40 ? 0 : random_below(s, 4));
+}
+
+static void random_limits(random_source *s, oracle_request *r, const oracle_history *h)
+{
+    uint64_t pairs, subsets;
+    oracle_need(h, &pairs, &subsets);
+    r->plan_limit = random_limit(s, pairs);
+    r->subset_limit = random_limit(s, subsets);
+}
+
+static void random_lengths(random_source *s, oracle_request *r)
+{
+    unsigned choice = random_below(s, 40);
+    r->workspace_len = need_of(r);
+    if (choice == 0) r->workspace_len--;
+    else if (choice < 10) r->workspace_len += random_below(s, 20);
+    choice = random_below(s, 120);
+    r->answer_len = choice < 4 ? choice % 3 : choice < 30 ? 3 + choice % 4 : 3;
+}
+
+static void try_decisions(const oracle_request *r, const oracle_history *h, tally *n)
+{
+    oracle_answer grounded = oracle_grounded(r, h), plain = oracle_plain(r, h);
+    uint64_t plan = expect_call(CALL_GROUNDED, r, grounded, NULL);
+    if (r->answer_len >= 3 && grounded.kind == 1 && !oracle_shows(r, h, plan))
+        disagree("nuntennis_grounded", r, "plan %" PRIu64 " is not grounded or does not obey the pins", plan);
+    expect_call(CALL_PLAIN, r, plain, NULL);
+    count(n, r, grounded, false);
+    count(n, r, plain, false);
+}
+
+// The words that the report asked for needs, if it needs any.
+static size_t words_of(const oracle_history *h, size_t asked, bool is_plain)
+{
+    for (size_t k = 0; k < h->steps; k++)
+        if (h->step[k].command.offset == asked) return is_plain ? h->step[k].triples.length : h->step[k].pairs.length;
+    return 3;
+}
+
+static void try_report(random_source *s, oracle_request r, const oracle_history *h, tally *n, bool is_plain)
+{
+    const oracle_table *table;
+    size_t words = words_of(h, r.asked, is_plain);
+    unsigned choice = random_below(s, 16);
+    r.report_len = choice == 0 ? words - 1 : choice == 1 ? random_below(s, (unsigned)words) : words + (choice < 6) * random_below(s, 9);
+    oracle_answer want = is_plain ? oracle_plain_report(&r, h, &table) : oracle_report(&r, h, &table);
+    expect_call(is_plain ? CALL_PLAIN_REPORT : CALL_REPORT, &r, want, table);
+    if (table && !is_plain) count_ordered(n, table);
+    count(n, &r, want, true);
+}
+
+static void try_reports(random_source *s, oracle_request r, const oracle_history *h, tally *n)
+{
+    for (unsigned k = 0; k < 4; k++) {
+        bool at_command = h->steps > 0 && k < 3;
+        r.asked = at_command ? h->step[k == 0 ? h->steps - 1 : random_below(s, (unsigned)h->steps)].command.offset
+                             : random_below(s, (unsigned)r.sheet_len + 3);
+        try_report(s, r, h, n, false);
+        try_report(s, r, h, n, true);
+    }
+}
+
+static void try_random(random_source *s, tally *n)
+{
+    uint8_t sheet[RANDOM_SHEET_ROOM];
+    oracle_request r = {sheet, random_sheet(s, sheet), 1024, 1024, 0, 0, SIZE_MAX, 0, 0, 3};
+    oracle_history h = {0, NULL, {0}};
+    random_pins(s, &r);
+    if (oracle_check(&r).value == 13 && random_below(s, 8)) fit_pins(&r);
+    if (oracle_check(&r).kind != 2) {
+        if (atoms_of(&r) > ORACLE_ATOMS) return; // damage that made it too large to enumerate
+        h = oracle_walk(r.sheet, r.sheet_len, r.pins_in, r.pins_out);
+    }
+    random_limits(s, &r, &h);
+    random_lengths(s, &r);
+    n->sheets++;
+    try_decisions(&r, &h, n);
+    try_reports(s, r, &h, n);
+    oracle_forget(&h);
+}
+
+static void print_tally(const tally *n)
+{
+    printf("random sheets: %" PRIu64 "; calls that agree with the oracle: %" PRIu64 "\n", n->sheets, n->calls);
+    printf("  yes %" PRIu64 ", no %" PRIu64 ", reported %" PRIu64 ", short answer slice %" PRIu64 "\n ", n->yes, n->no, n->reported,
+           n->short_answers);
+    for (unsigned k = 2; k <= 17; k++) printf(" [%u] %" PRIu64, k, n->refused[k]);
+    printf("\n  reports with a longer subset list before a shorter one: %" PRIu64 "\n", n->ordered);
+}
+
+// Every outcome must have come up, or the sheets test less than they seem to.
+static void check_tally(const tally *n)
+{
+    bool is_thin = n->yes < 100 || n->no < 100 || n->reported < 100 || n->ordered < 10;
+    for (unsigned k = 2; k <= 17; k++)
+        if (n->refused[k] < 10 && k != 9) is_thin = true; // 64 copies are tried apart
+    if (!is_thin) return;
+    printf("some outcome came up too seldom\n");
+    exit(1);
+}
+
+int main(int arguments, char **argument)
+{
+    random_source s = {2024};
+    tally n = {0};
+    uint64_t sheets = arguments > 1 ? strtoull(argument[1], NULL, 10) : 8000;
+    calls_begin();
+    case_name = "random sheet";
+    for (case_number = 0; case_number < sheets; case_number++) try_random(&s, &n);
+    print_tally(&n);
+    check_tally(&n);
+    printf("test_random: all agree\n");
+    return 0;
+}

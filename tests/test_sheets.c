@@ -1,0 +1,40 @@
+// The sheets of examples/sheets give the answers that stand in their own files.
+#include "calls.h"
+#include "sheet_file.h"
+
+#include <inttypes.h>
+#include <stdio.h>
+#include <string.h>
+
+static bool is_expected(const sheet_file *f, uint64_t plan)
+{
+    for (unsigned k = 0; k < f->answer_count; k++)
+        if (f->answers[k][1] == plan) return true;
+    return false;
+}
+
+static bool try_file(const char *path)
+{
+    static sheet_file f;
+    if (!sheet_file_read(&f, path)) return false;
+    if (f.answer_count == 0 || f.plain_count == 0) {
+        printf("%s: no line '#: answer' or '#: plain'\n", path);
+        return false;
+    }
+    oracle_request r = {f.sheet, f.sheet_len, f.plan_limit, f.subset_limit, f.pins_in, f.pins_out, 0, 0, 0, 3};
+    r.workspace_len = need_of(&r);
+    case_name = path;
+    uint64_t plan = expect_call(CALL_GROUNDED, &r, (oracle_answer){f.answers[0][0], f.answers[0][1], f.answers[0][2]}, NULL);
+    if (f.answers[0][0] == 1 && !is_expected(&f, plan)) disagree("nuntennis_grounded", &r, "plan %" PRIu64 " shown", plan);
+    expect_call(CALL_PLAIN, &r, (oracle_answer){f.plain[0], f.plain[1], f.plain[2]}, NULL);
+    return true;
+}
+
+int main(int arguments, char **argument)
+{
+    calls_begin();
+    for (int k = 1; k < arguments; k++)
+        if (!try_file(argument[k])) return 1;
+    printf("test_sheets: %d sheets give their answers\n", arguments - 1);
+    return arguments > 1 ? 0 : 1;
+}
