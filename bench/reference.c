@@ -158,7 +158,7 @@ static outcome conclude_plain(const state *s)
     return (outcome){NO, 0, 0};
 }
 
-static outcome write_pairs(const state *s, uint32_t *report, size_t report_len, size_t asked)
+static outcome write_pairs(state *s, uint32_t *report, size_t report_len, size_t asked)
 {
     const table *t = &s->tables[s->depth - 1];
     const uint32_t *rows[LIMIT];
@@ -226,6 +226,18 @@ uint64_t reference_plain(const uint8_t *sheet, size_t sheet_len,
     return say(decide(&r, run_plain_command, conclude_plain), answer);
 }
 
+static outcome report_on(const request *r, size_t asked, unsigned (*run)(state *, const command *),
+                         outcome (*write)(state *, uint32_t *, size_t, size_t), uint32_t *report, size_t report_len)
+{
+    state s;
+    outcome o = check(r, &asked);
+    if (o.kind == REFUSED) return o;
+    o = walk(&s, r, asked + 1, run);
+    if (o.kind != REFUSED) o = write(&s, report, report_len, asked);
+    clear(r);
+    return o;
+}
+
 uint64_t reference_report(const uint8_t *sheet, size_t sheet_len, size_t asked,
                           uint64_t plan_limit, uint64_t subset_limit, uint64_t pins_in, uint64_t pins_out,
                           uint32_t *workspace, size_t workspace_len,
@@ -234,13 +246,7 @@ uint64_t reference_report(const uint8_t *sheet, size_t sheet_len, size_t asked,
 {
     if (answer_len < 3) return 0;
     request r = {sheet, sheet_len, plan_limit, subset_limit, pins_in, pins_out, workspace, workspace_len};
-    state s;
-    outcome o = check(&r, &asked);
-    if (o.kind == REFUSED) return say(o, answer);
-    o = walk(&s, &r, asked + 1, run_command);
-    if (o.kind != REFUSED) o = write_pairs(&s, report, report_len, asked);
-    clear(&r);
-    return say(o, answer);
+    return say(report_on(&r, asked, run_command, write_pairs, report, report_len), answer);
 }
 
 uint64_t reference_plain_report(const uint8_t *sheet, size_t sheet_len, size_t asked,
@@ -251,11 +257,5 @@ uint64_t reference_plain_report(const uint8_t *sheet, size_t sheet_len, size_t a
 {
     if (answer_len < 3) return 0;
     request r = {sheet, sheet_len, plan_limit, subset_limit, pins_in, pins_out, workspace, workspace_len};
-    state s;
-    outcome o = check(&r, &asked);
-    if (o.kind == REFUSED) return say(o, answer);
-    o = walk(&s, &r, asked + 1, run_plain_command);
-    if (o.kind != REFUSED) o = write_triples(&s, report, report_len, asked);
-    clear(&r);
-    return say(o, answer);
+    return say(report_on(&r, asked, run_plain_command, write_triples, report, report_len), answer);
 }
