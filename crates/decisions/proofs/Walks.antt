@@ -1,7 +1,7 @@
 -- A decision without refusal: all checks passed, the bytes are one tree, every table on the way kept the limits, and the verdict is what that tree's
 -- table says. Assumes nothing.
 use mathlib.Core.Path.{_≡_, refl, sym, ap, _∙_, subst}
-use mathlib.Core.Bool.{Bool, true, false, cond, true≢false}
+use mathlib.Core.Bool.{Bool, false, true≢false}
 use mathlib.Core.List.{List, [], _∷_, map}
 use Prim.Native.Nat.{ℕ, zero, suc, _+_, _≤_}
 use native.Mathlib.Omega.{arith}
@@ -14,7 +14,8 @@ use Rattle.expression.specs.declared.Checked.{Checked}
 use Rattle.expression.specs.declared.Checked.the-variants.{Passed, Refused}
 use Rattle.expression.specs.Limits.{atomLimit}
 use Rattle.expression.specs.Reading.{newAtoms, Placed, Reading, faulty, whole, noCounts, reading}
-use Rattle.expression.specs.Checks.{Request, Test, firstOf, isFaulty, countsOf, absentTest, faultTest, unjoinedTest, checks, check}
+use Rattle.expression.specs.Checks.{Request, firstOf, isFaulty, countsOf, absentTest, faultTest, unjoinedTest, checks, check}
+use Rattle.expression.proofs.Accepted.{passed-by}
 use Rattle.semantics.specs.Expressions.{Expr, Operations, act, actAll, trees}
 use Rattle.semantics.specs.Programs.{numbers}
 use Rattle.semantics.specs.AnswerSets.{Assumptions}
@@ -50,15 +51,6 @@ walk-all {X} B f n (c ∷ cs) ts us h = step (f (newest vs)) (λ k. walk-all B f
 
 -- ---- checks that passed
 
--- a test that comes in a list that passed did not refuse
-first-passes : (z y : Counts) (t : Test) (ts : List Test) → firstOf z (t ∷ ts) ≡ Passed y → (t .refuses ≡ false) × (firstOf z ts ≡ Passed y)
-unfolding firstOf
-first-passes z y t ts h = step (t .refuses) refl h
-  where
-    step : (b : Bool) → t .refuses ≡ b → cond b (Refused (t .number) (t .place)) (firstOf z ts) ≡ Passed y → (t .refuses ≡ false) × (firstOf z ts ≡ Passed y)
-    step true e k = let z : _≡_ {A = ℕ} 0 1 = cc in absurd (omega arith)
-    step false e k = (e, k)
-
 -- 5 to 11, 12 and 13
 pub record Readable (a : Request) (r : Reading) : Type 0 where
   pub sound : isFaulty r ≡ false
@@ -68,13 +60,13 @@ pub record Readable (a : Request) (r : Reading) : Type 0 where
 pub checks-passed : (a : Request) (r : Reading) (z y : Counts) → firstOf z (checks a r) ≡ Passed y → Readable a r
 unfolding checks faultTest unjoinedTest
 checks-passed a r z y h =
-    let k1 = first-passes z y _ _ h in
-    let k2 = first-passes z y _ _ (k1 .1) in
-    let k3 = first-passes z y _ _ (k2 .1) in
-    let k4 = first-passes z y _ _ (k3 .1) in
-    let k5 = first-passes z y _ _ (k4 .1) in
-    let k6 = first-passes z y _ _ (k5 .1) in
-    let k7 = first-passes z y _ _ (k6 .1) in
+    let k1 = passed-by z y _ _ h in
+    let k2 = passed-by z y _ _ (k1 .1) in
+    let k3 = passed-by z y _ _ (k2 .1) in
+    let k4 = passed-by z y _ _ (k3 .1) in
+    let k5 = passed-by z y _ _ (k4 .1) in
+    let k6 = passed-by z y _ _ (k5 .1) in
+    let k7 = passed-by z y _ _ (k6 .1) in
     record { sound = k5 .0; one = eqb-true (countsOf r .depth) 1 (not-false (eqb (countsOf r .depth) 1) (k6 .0)); known = k7 .0 }
 
 -- ---- the bytes are one tree

@@ -1,7 +1,7 @@
 -- What is carried beside the rows of a table in 64-bit words: nothing, or the value of the first interpretation. Assumes nothing.
-use mathlib.Core.List.{List, [], _∷_, _++_}
+use mathlib.Core.List.{List, [], _++_}
 use mathlib.Core.Path.{_≡_}
-use Prim.Native.Nat.{ℕ, _+_, _-_, _*_, _%_, _^_, min}
+use Prim.Native.Nat.{ℕ, _+_, _-_, _%_, _^_, min}
 use lib.ListN.{take, length}
 use Rattle.tables.specs.Algebras.{Algebra}
 use Rattle.tables.specs.Definitions.{Pair, pairs}
@@ -15,11 +15,6 @@ use Rattle.entries.specs.declared.Carry.the-variants.{Nothing, First}
 abbrev pub carriedBy : Carry → Values ℕ
 carriedBy Nothing = record { unit = 0; either = λ a b. 0; together = λ a b. 0; present = λ c. 0; absent = λ c. 0 }
 carriedBy First = record { unit = 0; either = min; together = λ a b. (a + b) % 2 ^ 64; present = firstWeight; absent = λ c. 0 }
-
--- words for each row
-abbrev pub stride : Carry → ℕ
-stride Nothing = 0
-stride First = 1
 
 -- a value that the words keep
 abbrev pub Keeps : Carry → ℕ → Type 0

@@ -6,23 +6,13 @@ ghost use Prim.Native.Nat.{ℕ, _+_, _-_, _*_, _≤_, _<_, min};
 ghost use lib.ListN.{length, take, drop, getD};
 ghost use Rattle.candidates.specs.Candidates.{pairOf, Readable};
 ghost use Rattle.rows.specs.Rows.{Indexed};
-ghost use Rattle.entries.specs.Carries.{carriedBy, stride, Keeps, valuesIn, Kept};
+ghost use Rattle.entries.specs.Carries.{carriedBy, Keeps, valuesIn, Kept};
 ghost use Rattle.entries.specs.Entries.{Entered};
 
 // What the words beside the rows keep.
 pub enum Carry {
     Nothing,
     First,
-}
-
-// How many words a row has.
-pub fn stride(carry: Carry) -> usize
-    ensures { λ r. ⌜ r ≡ stride carry ⌝ }
-{
-    match carry {
-        Carry::Nothing => 0,
-        Carry::First => 1,
-    }
 }
 
 fn lesser(a: u64, b: u64) -> u64

@@ -26,7 +26,8 @@ pub record Accepted (K : ℕ) (a : Request) (n : Counts) : Type 0 where
   pub trueThere : a .assumedTrue < 2 ^ n .atoms
   pub falseThere : a .assumedFalse < 2 ^ n .atoms
 
-passed-by : (z n : Counts) (t : Test) (ts : List Test) → firstOf z (t ∷ ts) ≡ Passed n → (t .refuses ≡ false) × (firstOf z ts ≡ Passed n)
+-- a test at the front of a list that passed did not refuse
+pub passed-by : (z n : Counts) (t : Test) (ts : List Test) → firstOf z (t ∷ ts) ≡ Passed n → (t .refuses ≡ false) × (firstOf z ts ≡ Passed n)
 unfolding firstOf
 passed-by z n t ts h = step (t .refuses) refl h
   where

@@ -17,7 +17,7 @@ use Rattle.entries.specs.declared.Carry.{Carry}
 use Rattle.entries.specs.Carries.{Entry, valuesIn, Kept}
 use Rattle.entries.specs.Entries.{withValues, entriesOf}
 use Rattle.entries.proofs.Entering.{length-with}
-use Rattle.making.specs.Making.{enteredAll, tableOfAll, FitEntry, Making, Stepped, Settled, Outcome}
+use Rattle.making.specs.Making.{enteredAll, tableOfAll, FitEntry, Making, Stepped, Settled, Finished}
 use Rattle.making.proofs.Stepping.{making-indexed, making-kept}
 
 -- ---- how it begins
@@ -94,8 +94,8 @@ module _ {carry : Carry} {w p at to : ℕ} {cands : List Entry} {r : ℕ} {ws₀
         ∙ ap (λ (u : List ℕ). put at (p * w) u (tableOf w p new)) back
 
   module _ (cleared ws'' : List ℕ) (tabled : (l : r ≤ p) → ws'' ≡ put at (p * w) cleared (tableOf w p (new l))) (stays : p < r → ws'' ≡ ws') where
-    outcome-of : Outcome carry w p at cands r ws₀ cleared ws'' vals
-    outcome-of = record {
+    finished-as : Finished carry w p at cands r ws₀ cleared ws'' vals
+    finished-as = record {
       most = h .most;
       wide = h .wide;
       fit = λ l. h .made l .fit tt;
@@ -107,17 +107,17 @@ module _ {carry : Carry} {w p at to : ℕ} {cands : List Entry} {r : ℕ} {ws₀
       values = λ l. ap (λ (xs : List Pair). withValues xs (valuesIn carry r vals)) (sym (new-items l)) ∙ new-entries l;
     }
 
-  pub outcome : Outcome carry w p at cands r ws₀ ws₀ ws' vals
-  outcome = outcome-of ws₀ ws' new-table (λ l. refl)
+  pub finished : Finished carry w p at cands r ws₀ ws₀ ws' vals
+  finished = finished-as ws₀ ws' new-table (λ l. refl)
 
   -- an operand at word b, behind the table
   module _ (b : ℕ) (behind : at + p * w ≤ b) (inside : b + p * w ≤ length ws₀) where
     pub operand-there : r ≤ p → part b (p * w) ws' ≡ part b (p * w) ws₀
     operand-there l = ap (part b (p * w)) (new-table l) ∙ part-high b (p * w) at (p * w) ws₀ (tableOf w p (new l)) behind inside (table-long l)
 
-    pub outcome-gone : (ws'' : List ℕ) → (r ≤ p → ws'' ≡ put b (p * w) ws' (zeros (p * w))) → (p < r → ws'' ≡ ws') → Outcome carry w p at cands r ws₀ (put b (p * w) ws₀ (zeros (p * w))) ws'' vals
-    outcome-gone ws'' e =
-        outcome-of (put b (p * w) ws₀ (zeros (p * w))) ws''
+    pub finished-alone : (ws'' : List ℕ) → (r ≤ p → ws'' ≡ put b (p * w) ws' (zeros (p * w))) → (p < r → ws'' ≡ ws') → Finished carry w p at cands r ws₀ (put b (p * w) ws₀ (zeros (p * w))) ws'' vals
+    finished-alone ws'' e =
+        finished-as (put b (p * w) ws₀ (zeros (p * w))) ws''
         (λ l. e l ∙ ap (λ (u : List ℕ). put b (p * w) u (zeros (p * w))) (new-table l) ∙ put-comm at (p * w) b (p * w) ws₀ (tableOf w p (new l)) (zeros (p * w)) behind inside (table-long l))
 
 -- what lies below the words that a table is made in, and they themselves

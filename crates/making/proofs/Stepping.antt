@@ -14,7 +14,6 @@ use Rattle.candidates.specs.Candidates.{Readable, Made}
 use Rattle.rows.specs.Parts.{part, put}
 use Rattle.rows.specs.Rows.{Fit, Indexed}
 use Rattle.rows.proofs.Parts.{part-low, part-put, put-put, put-long, part-long}
-use Rattle.rows.proofs.Single.{read-fits}
 use Rattle.rows.proofs.Indexing.{padded-rows}
 use Rattle.entries.specs.declared.Carry.{Carry}
 use Rattle.entries.specs.Carries.{Entry, entryAlgebra, Kept}
@@ -125,9 +124,6 @@ made-unfit h l f = omega (arith, h .full l, f .1)
 
 pub made-readable : {w r : ℕ} {x : Pair} {row : List ℕ} → Made w r x row → r + 2 ≤ w → length row ≡ w → Readable row
 made-readable h l e = omega (arith, h .fits l .0)
-
-pub made-fit : {w r : ℕ} {x : Pair} {row : List ℕ} → Made w r x row → r + 2 ≤ w → length row ≡ w → Fit w x
-made-fit {w} {row} h l e = subst (Fit w) (h .fits l .1) (read-fits row (made-readable h l e) e)
 
 -- what lies below the table that is being made stays
 pub same-below : {carry : Carry} {w p to : ℕ} {cands rest rest′ : List Entry} {m r : ℕ} {ws₀ wsₛ ws indexₛ index valsₛ vals : List ℕ}

@@ -24,8 +24,7 @@ tableOfAll carry xs = canon (entryAlgebra labelCount carry .order) (entryAlgebra
 abbrev pub FitEntry : ℕ → Entry → Type 0
 FitEntry w x = Fit w (x .item)
 
--- how far a table is made: of the candidates cands, those of rest are left, m rows stand at word `to` (p + 1 where there are more than p); goal is the
--- table of all candidates
+-- how far a table is made: of the candidates cands, those of rest are left, m rows stand at word `to` (p + 1 where there are more than p)
 pub record Making (carry : Carry) (w p to : ℕ) (cands rest : List Entry) (m : ℕ) (ws₀ ws index vals : List ℕ) : Type 0 where
   pub bound : m ≤ p + 1
   pub frame : ws ≡ put to (p * w) ws₀ (part to (p * w) ws)
@@ -66,7 +65,7 @@ pub record Settled (w p r at to : ℕ) (index ws ws' : List ℕ) : Type 0 where
 
 -- what a command whose candidates are cands leaves: the table of all candidates at word `at`, of r rows, and its values; nothing changes where it has more
 -- than p rows, r is p + 1, or where a candidate does not fit, r is p + 2. The words cleared are those with the operands gone.
-pub record Outcome (carry : Carry) (w p at : ℕ) (cands : List Entry) (r : ℕ) (ws cleared ws' vals' : List ℕ) : Type 0 where
+pub record Finished (carry : Carry) (w p at : ℕ) (cands : List Entry) (r : ℕ) (ws cleared ws' vals' : List ℕ) : Type 0 where
   pub most : r ≤ p + 2
   pub wide : p + 1 < r → All (FitEntry w) cands → ⊥
   pub fit : r ≤ p + 1 → All (FitEntry w) cands

@@ -1,12 +1,16 @@
 -- A part of a list, and a list with a part put in. Assumes nothing.
-use mathlib.Core.Path.{_≡_, refl, sym, ap, _∙_}
+use mathlib.Core.Path.{_≡_, sym, ap, _∙_}
 use mathlib.Core.List.{List, [], _∷_, _++_, append-assoc}
-use Prim.Native.Nat.{ℕ, zero, suc, _+_, _-_, _*_, _≤_, _<_}
+use Prim.Native.Nat.{ℕ, _+_, _-_, _≤_}
 use native.Mathlib.Omega.{arith}
 use native.Mathlib.Nat.{zero-add, suc-add}
-use lib.ListN.{length-replicate, replicate-append-replicate, set, getD, length, take, drop, length-append, length-take, length-drop, take-append-drop}
-use lib.Seq.{set-append-left, getD-append-add, getD-drop, getD-take, take-at, drop-at, length-take-le, take-append-le, drop-append-le, drop-append-add, take-take, take-add, drop-drop}
+use lib.ListN.{length-replicate, replicate-append-replicate, set, length, take, drop, length-append, length-take, length-drop, take-append-drop}
+use lib.Seq.{take-at, drop-at, length-take-le, take-append-le, drop-append-le, drop-append-add, take-take, take-add, drop-drop}
 use Rattle.rows.specs.Parts.{part, put, zeros}
+
+-- how long the range of k words from a on is
+pub span : (a k : ℕ) → a + k - a ≡ k
+span a k = omega arith
 
 pub part-long : (a k : ℕ) (xs : List ℕ) → a + k ≤ length xs → length (part a k xs) ≡ k
 part-long a k xs l = length-take-le k (drop a xs) (simp length-drop (omega arith))
@@ -74,26 +78,6 @@ put-comm a k b l xs ys zs h m ey =
 set-add : (p q : List ℕ) (i v : ℕ) → set (p ++ q) (length p + i) v ≡ p ++ set q i v
 set-add [] q i v = rw (zero-add i)
 set-add (x ∷ p) q i v = rw (suc-add (length p) i) (ap (λ (t : List ℕ). x ∷ t) (set-add p q i v))
-
--- a store within a part that is put in
-pub set-put : (a k i v : ℕ) (xs ys : List ℕ) → a ≤ length xs → i < length ys → set (put a k xs ys) (a + i) v ≡ put a k xs (set ys i v)
-set-put a k i v xs ys l h =
-    ap (λ (j : ℕ). set (put a k xs ys) (j + i) v) (sym (length-take-le a xs l))
-    ∙ set-add (take a xs) (ys ++ drop k (drop a xs)) i v ∙ ap (λ (t : List ℕ). take a xs ++ t) (set-append-left ys (drop k (drop a xs)) i v h)
-
--- a read above a part that is put in
-pub get-high : (a k j : ℕ) (xs ys : List ℕ) → a + k ≤ j → a ≤ length xs → length ys ≡ k → getD (put a k xs ys) j 0 ≡ getD xs j 0
-get-high a k j xs ys h l e =
-    let t : ℕ = j - (a + k) in
-    let ej : j ≡ length (take a xs) + (length ys + t) = omega (arith, length-take-le a xs l) in
-    let ek : a + (k + t) ≡ j = omega arith in
-    ap (λ (n : ℕ). getD (put a k xs ys) n 0) ej
-    ∙ getD-append-add (take a xs) (ys ++ drop k (drop a xs)) (length ys + t) 0
-    ∙ getD-append-add ys (drop k (drop a xs)) t 0
-    ∙ getD-drop k (drop a xs) t 0 ∙ getD-drop a xs (k + t) 0 ∙ ap (λ (n : ℕ). getD xs n 0) ek
-
-pub get-part : (a k i : ℕ) (xs : List ℕ) → i < k → getD (part a k xs) i 0 ≡ getD xs (a + i) 0
-get-part a k i xs l = getD-take k (drop a xs) i 0 l ∙ getD-drop a xs i 0
 
 -- a part of a part
 pub part-part : (b n a k : ℕ) (xs : List ℕ) → a + k ≤ n → b + n ≤ length xs → part a k (part b n xs) ≡ part (b + a) k xs

@@ -1,21 +1,20 @@
 -- A table written out in its order over another, row by row. Assumes nothing.
-use mathlib.Core.Path.{_≡_, refl, sym, ap, ap₂, _∙_, subst}
+use mathlib.Core.Path.{_≡_, sym, ap, ap₂, _∙_, subst}
 use mathlib.Core.List.{List, [], _∷_, _++_, append-assoc}
-use Prim.Native.Nat.{ℕ, zero, suc, _+_, _-_, _*_, _≤_, _<_, max}
-use native.Mathlib.Nat.{not-suc-le-zero, le-of-suc-le-suc}
+use Prim.Native.Nat.{ℕ, suc, _+_, _*_, _≤_, _<_, max}
 use native.Mathlib.Numerals.{add-one}
 use native.Mathlib.Omega.{arith}
-use lib.ListN.{length, take, drop, getD, length-append, length-take, length-drop}
-use lib.Seq.{take-all, length-take-le, take-at, drop-at, drop-append-add, drop-drop, take-suc}
+use lib.ListN.{length, take, drop, getD, length-append, length-drop}
+use lib.Seq.{take-all, length-take-le, take-at, drop-append-add, drop-drop, take-suc}
 use Rattle.lists.specs.Lists.{All}
-use Rattle.lists.proofs.Members.{all-append, all-take, all-drop, all-map, all-get}
+use Rattle.lists.proofs.Members.{all-append, all-take, all-drop, all-map}
 use Rattle.tables.specs.Definitions.{Pair}
 use Rattle.candidates.specs.Candidates.{pairOf}
-use Rattle.rows.specs.Parts.{part, put, zeros, Apart}
+use Rattle.rows.specs.Parts.{part, put, Apart}
 use Rattle.rows.specs.Rows.{rowOf, Fit, tableOf, rowsIn, IsRow, Rows, slot, sortedOf, Indexed}
-use Rattle.rows.proofs.Parts.{part-put, part-long, part-part, part-high, put-inner, put-part, put-put, put-long}
+use Rattle.rows.proofs.Parts.{part-put, part-part, part-high, put-inner, put-part, put-put, put-long}
 use Rattle.rows.proofs.Tables.{row-within, length-table, slot-row, table-put, length-rowsIn, rows-of}
-use Rattle.rows.proofs.Indexing.{sorted-long, sorted-at, place-lt, slot-fits, slot-is-row}
+use Rattle.rows.proofs.Indexing.{sorted-long, slot-fits}
 
 -- the pairs of a table that is being made fit their rows
 pub sorted-fit : {w p m : ℕ} {area index : List ℕ} → Indexed w p m area index → All (Fit w) (sortedOf w m area index)
@@ -139,6 +138,3 @@ module _ (w p m n to from : ℕ) (ws index : List ℕ) (a : Apart to from (p * w
 
     pub source-rows : Rows w p m (part from (p * w) cleared-to)
     source-rows = rw source-same (rows-of w p m (h .arrived) (part from (p * w) ws) (h .words) (h .count) (h .room) (h .fit) .0)
-
-    pub cleared-long : length cleared-to ≡ length ws
-    cleared-long = put-long to (p * w) ws (tableOf w p new) (omega (arith, a .before, a .within)) new-long

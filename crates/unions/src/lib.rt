@@ -10,7 +10,7 @@ ghost use Rattle.lists.specs.Lists.{products};
 ghost use Rattle.labels.specs.Labels.{labelCount};
 ghost use Rattle.rows.specs.Rows.{Rows};
 ghost use Rattle.entries.specs.Carries.{Keeps, Kept, entryAlgebra};
-ghost use Rattle.making.specs.Making.{Next, Steps, Outcome, entryAt, entriesAt};
+ghost use Rattle.making.specs.Making.{Next, Steps, Finished, entryAt, entriesAt};
 ghost use Rattle.unions.specs.Unions.{unitedAt};
 
 // The pairs at words ra and rb united with the value v, and put into the table that is being made at word `to`. The answer is the count then; p + 1
@@ -155,7 +155,7 @@ pub fn unite_tables(
     requires { ⌜ (a + p * w ≤ b) × (b + p * w ≤ to) × (to + p * w ≤ length (now ws)) ⌝ }
     requires { ⌜ Rows w p na (part a (p * w) (now ws)) × Rows w p nb (part b (p * w) (now ws)) × Kept carry p na (now left) × Kept carry p nb (now right) ⌝ }
     requires { ⌜ (part to (p * w) (now ws) ≡ zeros (p * w)) × (p ≤ length (now index)) × Kept carry p 0 (now vals) ⌝ }
-    ensures { λ r. ⌜ Outcome carry w p a (products (entryAlgebra labelCount carry .united) (entriesAt carry w p a na (now (left .entry)) (now (ws .entry))) (entriesAt carry w p b nb (now (right .entry)) (now (ws .entry)))) r (now (ws .entry)) (put b (p * w) (now (ws .entry)) (zeros (p * w))) (now (ws .exit)) (now (vals .exit)) ⌝ }
+    ensures { λ r. ⌜ Finished carry w p a (products (entryAlgebra labelCount carry .united) (entriesAt carry w p a na (now (left .entry)) (now (ws .entry))) (entriesAt carry w p b nb (now (right .entry)) (now (ws .entry)))) r (now (ws .entry)) (put b (p * w) (now (ws .entry)) (zeros (p * w))) (now (ws .exit)) (now (vals .exit)) ⌝ }
 {
     let r = unite_all(
         ws,

@@ -1,19 +1,16 @@
 -- `making::put_entry`: the table is over already, or the entry goes in.
 use mathlib.Core.Path.{_≡_, refl, _∙_}
-use Prim.Native.Nat.{ℕ, _+_, _-_, _*_, _≤_}
+use Prim.Native.Nat.{_*_, _≤_}
 use lib.ListN.{length}
 use Rattle.candidates.specs.Candidates.{pairOf}
 use Rattle.rows.specs.Rows.{Fit}
-use Rattle.rows.proofs.Parts.{part-long}
+use Rattle.rows.proofs.Parts.{span, part-long}
 use Rattle.rows.proofs.Single.{read-fits}
 use Rattle.making.proofs.Stepping.{making-indexed, making-kept, over-more, put-more}
 use borrow.Author.Needs.{needs}
 use Rattle.making.proofs.put_entry.Statement.{statement}
 use Rattle.making.proofs.put_entry.Tie as tie
 use native.Mathlib.Omega.{arith}
-
-span : (a k : ℕ) → a + k - a ≡ k
-span a k = omega arith
 
 fits : (s : tie.Start) → Fit (s .args .w) (pairOf (s .args .row .now))
 fits s = read-fits (s .args .row .now) (s .pre .1 .0 .0) (s .pre .1 .0 .1)

@@ -1,15 +1,13 @@
 -- `making::settle`: too many rows are cleared, others put in order.
 use mathlib.Core.Path.{_≡_, refl, _∙_}
-use Prim.Native.Nat.{ℕ, _+_, _-_, _*_}
+use Prim.Native.Nat.{_*_}
+use Rattle.rows.proofs.Parts.{span}
 use Rattle.rows.specs.Parts.{zeros}
 use Rattle.rows.specs.Rows.{tableOf}
 use borrow.Author.Needs.{needs}
 use Rattle.making.proofs.settle.Statement.{statement}
 use Rattle.making.proofs.settle.Tie as tie
 use native.Mathlib.Omega.{arith}
-
-span : (a k : ℕ) → a + k - a ≡ k
-span a k = omega arith
 
 mul-area : tie.Need-mul-area
 mul-area c = search needs

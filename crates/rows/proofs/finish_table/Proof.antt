@@ -1,8 +1,7 @@
 -- `rows::finish_table`: the rows are written, the others cleared.
-use mathlib.Core.Path.{_≡_, refl, sym, ap, _∙_}
-use mathlib.Core.List.{List, []}
-use Prim.Native.Nat.{ℕ, _+_, _-_, _*_, _≤_}
-use lib.ListN.{length, take}
+use mathlib.Core.Path.{_≡_, refl, _∙_}
+use Prim.Native.Nat.{_*_}
+use Rattle.rows.proofs.Parts.{span}
 use Rattle.rows.specs.Parts.{part, put, zeros}
 use Rattle.rows.specs.Rows.{tableOf, sortedOf}
 use Rattle.rows.proofs.Writing.{target-rows, target-cleared, source-rows}
@@ -13,9 +12,6 @@ use native.Mathlib.Omega.{arith}
 
 abbrev start : tie.After-write-rows → tie.Start
 start c = c .before .before .before .before .before .before
-
-span : (a k : ℕ) → a + k - a ≡ k
-span a k = omega arith
 
 -- the words after the first clearing
 now : (c : tie.After-clear-rows) → put (start (c .before .before .before .before .before .before .before) .args .to) (start (c .before .before .before .before .before .before .before) .args .p * start (c .before .before .before .before .before .before .before) .args .w) (c .before .before .before .before .before .before .before .write-rows .last .0) (c .clear-rows .last .0)

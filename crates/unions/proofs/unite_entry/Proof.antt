@@ -1,8 +1,9 @@
 -- `unions::unite_entry`: the candidate is made, then put in.
 use mathlib.Core.Path.{_≡_, sym, _∙_, subst}
 use mathlib.Core.List.{List, _∷_}
-use Prim.Native.Nat.{ℕ, _+_, _-_, _≤_}
+use Prim.Native.Nat.{ℕ, _+_, _≤_}
 use lib.ListN.{length}
+use Rattle.rows.proofs.Parts.{span}
 use Rattle.tables.specs.Definitions.{Pair, unitePairs}
 use Rattle.candidates.specs.Candidates.{pairOf, Made}
 use Rattle.rows.specs.Parts.{part}
@@ -17,9 +18,6 @@ use native.Mathlib.Omega.{arith}
 
 abbrev start : tie.After-unite-row → tie.Start
 start c = c .before .before .before .before .before .before .before .before .before
-
-span : (a k : ℕ) → a + k - a ≡ k
-span a k = omega arith
 
 -- the candidate row
 made : (c : tie.After-unite-row) → Made (start c .args .w) (c .unite-row .result) (unitePairs (pairOf (part (start c .args .ra) (start c .args .w) (start c .args .ws .now))) (pairOf (part (start c .args .rb) (start c .args .w) (start c .args .ws .now)))) (c .unite-row .last .0)

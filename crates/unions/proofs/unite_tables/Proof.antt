@@ -1,15 +1,16 @@
 -- `unions::unite_tables`: the candidates are put in, the table is settled, the operand goes.
 use mathlib.Core.Path.{_≡_, refl, sym, _∙_, subst}
 use mathlib.Core.List.{List, []}
-use Prim.Native.Nat.{ℕ, _+_, _-_, _*_}
+use Prim.Native.Nat.{_*_}
 use lib.ListN.{length}
+use Rattle.rows.proofs.Parts.{span}
 use Rattle.lists.specs.Lists.{products}
 use Rattle.labels.specs.Labels.{labelCount}
 use Rattle.rows.specs.Parts.{zeros}
 use Rattle.rows.specs.Rows.{tableOf, Rows}
 use Rattle.entries.specs.Carries.{Entry, entryAlgebra}
 use Rattle.making.specs.Making.{Stepped, entriesAt}
-use Rattle.making.proofs.Settling.{begin, operand-there, outcome-gone, stepped-below, stepped-indexed}
+use Rattle.making.proofs.Settling.{begin, operand-there, finished-alone, stepped-below, stepped-indexed}
 use borrow.Author.Needs.{needs}
 use Rattle.unions.proofs.unite_tables.Statement.{statement}
 use Rattle.unions.proofs.unite_tables.Tie as tie
@@ -17,9 +18,6 @@ use native.Mathlib.Omega.{arith}
 
 abbrev start : tie.After-unite-all → tie.Start
 start u = u .before .before .before .before .before .before .before .before .before .before .before
-
-span : (a k : ℕ) → a + k - a ≡ k
-span a k = omega arith
 
 abbrev cands : tie.Start → List Entry
 cands s = products (entryAlgebra labelCount (s .args .carry) .united) (entriesAt (s .args .carry) (s .args .w) (s .args .p) (s .args .a) (s .args .na) (s .args .left .now) (s .args .ws .now)) (entriesAt (s .args .carry) (s .args .w) (s .args .p) (s .args .b) (s .args .nb) (s .args .right .now) (s .args .ws .now))
@@ -109,7 +107,7 @@ returns c =
     let u = k .before .before .before .before .before .before .before .before .before .before .before .before in
     let s = start u in
     let e : c .before .before .clear-rows .last .0 ≡ zeros (s .args .p * s .args .w) = c .before .before .clear-rows .ensures ∙ (unfold tableOf in refl) in
-    outcome-gone (omega (arith, s .pre .1 .0 .0, s .pre .1 .0 .1)) (s .pre .1 .0 .2) (s .pre .1 .1 .1 .0) (stepped u) (k .settle .ensures) (s .args .b) (s .pre .1 .0 .0) (omega (arith, s .pre .1 .0 .1, s .pre .1 .0 .2)) _ (λ l. rw (span (s .args .b) (s .args .p * s .args .w), e)) (λ l. absurd (omega (arith, c .before .before .before .before .if1 .taken)))
+    finished-alone (omega (arith, s .pre .1 .0 .0, s .pre .1 .0 .1)) (s .pre .1 .0 .2) (s .pre .1 .1 .1 .0) (stepped u) (k .settle .ensures) (s .args .b) (s .pre .1 .0 .0) (omega (arith, s .pre .1 .0 .1, s .pre .1 .0 .2)) _ (λ l. rw (span (s .args .b) (s .args .p * s .args .w), e)) (λ l. absurd (omega (arith, c .before .before .before .before .if1 .taken)))
 
 same-length-5 : tie.Need-same-length-5
 same-length-5 c = search needs
@@ -128,7 +126,7 @@ returns-2 c =
     let k = c .before .before .before .before .before in
     let u = k .before .before .before .before .before .before .before .before .before .before .before .before in
     let s = start u in
-    outcome-gone (omega (arith, s .pre .1 .0 .0, s .pre .1 .0 .1)) (s .pre .1 .0 .2) (s .pre .1 .1 .1 .0) (stepped u) (k .settle .ensures) (s .args .b) (s .pre .1 .0 .0) (omega (arith, s .pre .1 .0 .1, s .pre .1 .0 .2)) _ (λ l. absurd (omega (arith, c .if1 .left))) (λ l. refl)
+    finished-alone (omega (arith, s .pre .1 .0 .0, s .pre .1 .0 .1)) (s .pre .1 .0 .2) (s .pre .1 .1 .1 .0) (stepped u) (k .settle .ensures) (s .args .b) (s .pre .1 .0 .0) (omega (arith, s .pre .1 .0 .1, s .pre .1 .0 .2)) _ (λ l. absurd (omega (arith, c .if1 .left))) (λ l. refl)
 
 pub unite-tables-spec : {M : Type 1} → statement M
 unite-tables-spec =
