@@ -57,6 +57,19 @@ module _ (K : ℕ) where
     merge = second;
   }
 
+  -- Definition 5 again, as the words keep it: a triple is a pair without subsets
+  unfoldable pub flat : Algebra Pair
+  flat = record {
+    present = λ c g. markT K g ∷ [];
+    absent = λ c g. markF K g ∷ [];
+    unmet = λ g. markU K g ∷ [];
+    united = unitePairs;
+    relabelled = λ i j x. mapPair (relabelTriple K i j (ownTriple x)) (relabelTriple K i j) x;
+    connected = λ k i j x. mapPair (connectTriple K k i j (ownTriple x) (ownTriple x)) (connectTriple K k i j (ownTriple x)) x;
+    order = compareLists;
+    merge = second;
+  }
+
   -- 01, Tables: the plain answer is yes if some triple of the final table has U empty
   unfoldable pub plainAccepts : List ℕ → Bool
   plainAccepts t = some (allMet K) t
