@@ -1,11 +1,15 @@
 -- A stack of tables in a lent workspace (01, "One command a call"): areas of p rows of w words, the oldest table first; the last area is scratch. Assumes nothing.
 use mathlib.Core.Path.{_≡_}
+use mathlib.Core.Bool.{cond}
 use mathlib.Core.List.{List, [], _∷_, _++_, map}
-use Prim.Native.Nat.{ℕ, _-_, _*_, _≤_, _<_}
+use Prim.Native.Nat.{ℕ, _+_, _-_, _*_, _≤_, _<_}
+use lib.Dec.{ltb}
 use lib.ListN.{length, take, drop}
 use Rattle.lists.specs.Lists.{All}
 use Rattle.lists.specs.Sorted.{compareNumbers, compareLists, Rising}
+use Rattle.expression.specs.Refusals.{subsetsFull, plansFull}
 use Rattle.tables.specs.Definitions.{Pair, subsets}
+use Rattle.decisions.specs.Decisions.{pairsFault, newest}
 use Rattle.rows.specs.Parts.{put, zeros}
 use Rattle.rows.specs.Rows.{Fit, tableOf}
 use Rattle.entries.specs.declared.Carry.{Carry}
@@ -56,3 +60,15 @@ pub record Holds (carry : Carry) (d w p : ℕ) (ts : List (List Entry)) (beyond 
 abbrev pub placed : Carry → ℕ → ℕ → List ℕ → List ℕ → List ℕ
 placed Nothing o r new vals = vals
 placed First o r new vals = put o r vals (take r new)
+
+-- 15, then 16, or 0, by the count that a command answers: p + 2 where a pair has too many subsets, p + 1 where there are too many pairs
+unfoldable pub faultOf : ℕ → ℕ → ℕ
+faultOf p r = cond (ltb (p + 1) r) subsetsFull (cond (ltb p r) plansFull 0)
+
+-- a command whose stack is us then answers r: the tables are held, r is how many entries the newest has; or it is refused and no word of the workspace changed
+pub record Acted (carry : Carry) (d w p : ℕ) (us : List (List Entry)) (beyond : List ℕ) (r : ℕ) (ws ws' vals' : List ℕ) : Type 0 where
+  pub most : r ≤ p + 2
+  pub fault : faultOf p r ≡ pairsFault p (w - 2) (pairsOf (newest us))
+  pub count : r ≤ p → length (newest us) ≡ r
+  pub holds : r ≤ p → Holds carry d w p us beyond ws' vals'
+  pub same : p < r → ws' ≡ ws
