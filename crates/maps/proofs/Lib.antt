@@ -1,0 +1,3 @@
+pub mod Mapping
+pub mod Algebras
+pub mod Unchanged
