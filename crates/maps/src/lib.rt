@@ -2,16 +2,17 @@
 use entries::Carry;
 use expression::Command;
 ghost use mathlib.Core.Path.{_≡_};
-ghost use mathlib.Core.List.{[], _∷_};
+ghost use mathlib.Core.List.{[], _∷_, map};
 ghost use Prim.Native.Nat.{_+_, _*_, _≤_};
 ghost use lib.ListN.{length};
 ghost use Rattle.labels.specs.Labels.{labelCount};
 ghost use Rattle.expression.specs.Commands.{Suits};
 ghost use Rattle.candidates.specs.Candidates.{Readable};
 ghost use Rattle.rows.specs.Parts.{part};
-ghost use Rattle.entries.specs.Carries.{Keeps};
-ghost use Rattle.making.specs.Making.{Next, Puts};
-ghost use Rattle.maps.specs.Maps.{mappedAt};
+ghost use Rattle.rows.specs.Rows.{Rows};
+ghost use Rattle.entries.specs.Carries.{Keeps, Beside};
+ghost use Rattle.making.specs.Making.{Next, Puts, entriesAt};
+ghost use Rattle.maps.specs.Maps.{mapped, mappedAt};
 
 // What the command makes of the pair at word ra, with the value v, put into the table that is being made at word `to`. It has no more subsets than
 // before, so it fits. The answer is the count then; p + 1 where there are more than p rows.
@@ -37,4 +38,36 @@ pub fn map_entry(
 {
     candidates::map_row(row, &ws[ra..ra + w], c);
     making::put_entry(ws, row, index, vals, carry, w, p, to, m, v)
+}
+
+// Each of the n entries at word a, whose values are `old`, mapped and put in. The answer is as map_entry's.
+pub fn map_all(
+    ws: &mut [u32],
+    row: &mut [u32],
+    index: &mut [u32],
+    vals: &mut [u64],
+    old: &[u64],
+    carry: Carry,
+    w: usize,
+    p: usize,
+    a: usize,
+    n: usize,
+    to: usize,
+    c: Command,
+) -> usize
+    requires { ⌜ (2 ≤ w) × (w ≤ 4096) × (p ≤ 1024) × (length (now row) ≡ w) ⌝ }
+    requires { ⌜ (a + p * w ≤ to) × (to + p * w ≤ length (now ws)) ⌝ }
+    requires { ⌜ Rows w p n (part a (p * w) (now ws)) × Beside carry n (now old) × Suits labelCount c ⌝ }
+    requires { ⌜ Next carry w p to 0 (map (mapped c) (entriesAt carry w p a n (now old) (now ws))) (now ws) (now index) (now vals) ⌝ }
+    ensures { λ r. ⌜ Puts carry w p to 0 (map (mapped c) (entriesAt carry w p a n (now (old .entry)) (now (ws .entry)))) r (now (ws .entry)) (now (index .entry)) (now (vals .entry)) (now (ws .exit)) (now (index .exit)) (now (vals .exit)) ⌝ }
+{
+    let mut r = 0;
+    let mut j = 0;
+    while j < n {
+        let ra = a + j * w;
+        let v = entries::value_at(old, carry, n, j);
+        r = map_entry(ws, row, index, vals, carry, w, p, ra, to, r, v, c);
+        j += 1;
+    }
+    r
 }
