@@ -8,10 +8,10 @@ ghost use lib.ListN.{length};
 ghost use Rattle.labels.specs.Labels.{labelCount};
 ghost use Rattle.expression.specs.Commands.{Suits};
 ghost use Rattle.candidates.specs.Candidates.{Readable};
-ghost use Rattle.rows.specs.Parts.{part};
+ghost use Rattle.rows.specs.Parts.{part, zeros};
 ghost use Rattle.rows.specs.Rows.{Rows};
-ghost use Rattle.entries.specs.Carries.{Keeps, Beside};
-ghost use Rattle.making.specs.Making.{Next, Puts, entriesAt};
+ghost use Rattle.entries.specs.Carries.{Keeps, Beside, Kept};
+ghost use Rattle.making.specs.Making.{Next, Puts, Finished, entriesAt};
 ghost use Rattle.maps.specs.Maps.{mapped, mappedAt};
 
 // What the command makes of the pair at word ra, with the value v, put into the table that is being made at word `to`. It has no more subsets than
@@ -69,5 +69,32 @@ pub fn map_all(
         r = map_entry(ws, row, index, vals, carry, w, p, ra, to, r, v, c);
         j += 1;
     }
+    r
+}
+
+// The table at word a, of n rows with the values `old`, becomes what the command makes of it; made in the words from `to` on. It has no more rows than
+// before. The answer is how many, and `vals` holds their values then.
+pub fn map_table(
+    ws: &mut [u32],
+    row: &mut [u32],
+    index: &mut [u32],
+    vals: &mut [u64],
+    old: &[u64],
+    carry: Carry,
+    w: usize,
+    p: usize,
+    a: usize,
+    n: usize,
+    to: usize,
+    c: Command,
+) -> usize
+    requires { ⌜ (2 ≤ w) × (w ≤ 4096) × (p ≤ 1024) × (length (now row) ≡ w) ⌝ }
+    requires { ⌜ (a + p * w ≤ to) × (to + p * w ≤ length (now ws)) ⌝ }
+    requires { ⌜ Rows w p n (part a (p * w) (now ws)) × Beside carry n (now old) × Suits labelCount c ⌝ }
+    requires { ⌜ (part to (p * w) (now ws) ≡ zeros (p * w)) × (p ≤ length (now index)) × Kept carry p 0 (now vals) ⌝ }
+    ensures { λ r. ⌜ (r ≤ p) × Finished carry w p a (map (mapped c) (entriesAt carry w p a n (now (old .entry)) (now (ws .entry)))) r (now (ws .entry)) (now (ws .entry)) (now (ws .exit)) (now (vals .exit)) ⌝ }
+{
+    let r = map_all(ws, row, index, vals, old, carry, w, p, a, n, to, c);
+    making::settle(ws, row, index, w, p, r, n, a, to);
     r
 }
