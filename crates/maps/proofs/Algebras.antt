@@ -8,7 +8,7 @@ use Rattle.tables.specs.Definitions.{pairs, flat}
 use Rattle.values.specs.Values.{valued}
 use Rattle.candidates.specs.Candidates.{mapTriple, mapPairBy}
 use Rattle.entries.specs.declared.Carry.{Carry}
-use Rattle.entries.specs.Carries.{Entry, carriedBy}
+use Rattle.entries.specs.Carries.{carriedBy}
 use Rattle.maps.specs.Maps.{mapped}
 
 module _ (carry : Carry) (i j : ℕ) where

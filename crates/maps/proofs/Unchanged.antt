@@ -14,7 +14,7 @@ use Rattle.labels.specs.Labels.{labelCount}
 use Rattle.expression.specs.declared.Command.{Command}
 use Rattle.tables.specs.Definitions.{Pair, pairs, subsets}
 use Rattle.values.specs.Values.{valued}
-use Rattle.candidates.specs.Candidates.{pairOf, mapPairBy, changesPair}
+use Rattle.candidates.specs.Candidates.{mapPairBy, changesPair}
 use Rattle.candidates.proofs.Changing.{unchanged-pair}
 use Rattle.rows.specs.Rows.{rowOf, Fit}
 use Rattle.rows.proofs.Single.{pair-row}

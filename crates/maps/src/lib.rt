@@ -5,11 +5,12 @@ ghost use mathlib.Core.Path.{_≡_};
 ghost use mathlib.Core.List.{[], _∷_, map};
 ghost use Prim.Native.Nat.{_+_, _*_, _≤_};
 ghost use lib.ListN.{length};
+ghost use Rattle.lists.specs.Lists.{some};
 ghost use Rattle.labels.specs.Labels.{labelCount};
 ghost use Rattle.expression.specs.Commands.{Suits};
-ghost use Rattle.candidates.specs.Candidates.{Readable};
+ghost use Rattle.candidates.specs.Candidates.{Readable, changesPair};
 ghost use Rattle.rows.specs.Parts.{part, zeros};
-ghost use Rattle.rows.specs.Rows.{Rows};
+ghost use Rattle.rows.specs.Rows.{Rows, rowsIn};
 ghost use Rattle.entries.specs.Carries.{Keeps, Beside, Kept};
 ghost use Rattle.making.specs.Making.{Next, Puts, Finished, entriesAt};
 ghost use Rattle.maps.specs.Maps.{mapped, mappedAt};
@@ -97,4 +98,20 @@ pub fn map_table(
     let r = map_all(ws, row, index, vals, old, carry, w, p, a, n, to, c);
     making::settle(ws, row, index, w, p, r, n, a, to);
     r
+}
+
+// Whether the command changes some row of the table at word a, of n rows. A table that it leaves need not be made anew.
+pub fn changes_table(ws: &[u32], w: usize, p: usize, a: usize, n: usize, c: Command) -> bool
+    requires { ⌜ (a + p * w ≤ length (now ws)) × Rows w p n (part a (p * w) (now ws)) × Suits labelCount c ⌝ }
+    ensures { λ r. ⌜ r ≡ some (changesPair labelCount c) (rowsIn w n (part a (p * w) (now (ws .entry)))) ⌝ }
+{
+    let mut i = 0;
+    while i < n {
+        let ra = a + i * w;
+        if candidates::changes(&ws[ra..ra + w], c) {
+            return true;
+        }
+        i += 1;
+    }
+    false
 }
