@@ -76,7 +76,7 @@ add-ra : tie.Need-add-ra Inv-loop μ-loop
 add-ra c = omega (arith, row-below c, start c .pre .1 .0 .1)
 
 value-at-requires : tie.Need-value-at-requires Inv-loop μ-loop
-value-at-requires c κs = (start c .pre .1 .1 .0 .1, c .loop-test .taken)
+value-at-requires c κs = (start c .pre .1 .1 .0 .1, omega (arith, c .loop-test .taken))
 
 map-entry-requires : tie.Need-map-entry-requires Inv-loop μ-loop
 map-entry-requires c κs =
