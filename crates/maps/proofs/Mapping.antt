@@ -1,0 +1,50 @@
+-- The entries of a table mapped one after the other: the next candidate, and that there are no more candidates than rows. Assumes nothing.
+use mathlib.Core.Path.{_≡_, refl, sym, ap, _∙_}
+use mathlib.Core.List.{List, _∷_, map}
+use Prim.Native.Nat.{ℕ, _+_, _*_, _≤_, _<_}
+use native.Mathlib.Decide.{decLe}
+use native.Mathlib.Omega.{arith}
+use lib.ListN.{length, drop, getD}
+use Rattle.lists.proofs.Canon.{length-canon-map}
+use Rattle.labels.specs.Labels.{labelCount}
+use Rattle.expression.specs.declared.Command.{Command}
+use Rattle.rows.specs.Parts.{part}
+use Rattle.rows.specs.Rows.{Rows}
+use Rattle.entries.specs.declared.Carry.{Carry}
+use Rattle.entries.specs.declared.Carry.the-variants.{Nothing, First}
+use Rattle.entries.specs.Carries.{Keeps, valuesIn, Beside, Entry, entryAlgebra}
+use Rattle.entries.proofs.Keeping.{no-value}
+use Rattle.making.specs.Making.{Making, tableOfAll, entriesAt}
+use Rattle.making.proofs.Held.{entries-long, entry-at, entries-from}
+use Rattle.maps.specs.Maps.{mapped, mappedAt}
+
+-- the value of a row is one that words keep
+pub keeps-value : (carry : Carry) (n j : ℕ) (old : List ℕ) → Keeps carry (getD (valuesIn carry n old) j 0)
+keeps-value Nothing n j old = sym (no-value Nothing n j old refl)
+keeps-value First n j old = tt
+
+-- the n entries of the area at word a
+module _ (carry : Carry) (w p a n : ℕ) (old wsₛ : List ℕ) (within : a + p * w ≤ length wsₛ) (t : Rows w p n (part a (p * w) wsₛ)) (beside : Beside carry n old) (c : Command) where
+  abbrev xs : List Entry
+  xs = entriesAt carry w p a n old wsₛ
+
+  pub next-is : (j : ℕ) → j < n → (v : ℕ) → v ≡ getD (valuesIn carry n old) j 0 → (ws : List ℕ) → part (a + j * w) w ws ≡ part (a + j * w) w wsₛ
+      → map (mapped c) (drop j xs) ≡ mappedAt w (a + j * w) v c ws ∷ map (mapped c) (drop (j + 1) xs)
+  next-is j l v ev ws e =
+      ap (map (mapped c)) (entries-from carry w p a n old wsₛ within t beside j l)
+      ∙ ap (λ (y : Entry). mapped c y ∷ map (mapped c) (drop (j + 1) xs)) (entry-at carry w p a n old wsₛ within t beside j l v ev ws e)
+
+  -- their table has no more than p rows
+  pub few-mapped : length (tableOfAll carry (map (mapped c) xs)) ≤ p
+  unfolding tableOfAll
+  few-mapped =
+      omega (arith, length-canon-map (entryAlgebra labelCount carry .order) (entryAlgebra labelCount carry .merge) (mapped c) xs, entries-long carry w p a n old wsₛ within t beside, t .room)
+
+-- a table whose candidates come to no more than p rows is not over
+pub not-over : {carry : Carry} {w p to : ℕ} {cands rest : List Entry} {r : ℕ} {ws₀ ws index vals : List ℕ} → Making carry w p to cands rest r ws₀ ws index vals
+    → length (tableOfAll carry cands) ≤ p → r ≤ p
+not-over {p} {r} h l = step (decLe r p)
+  where
+    step : Dec (r ≤ p) → r ≤ p
+    step (yes k) = k
+    step (no k) = absurd (omega (arith, h .over (omega arith)))
