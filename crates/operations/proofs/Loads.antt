@@ -9,7 +9,7 @@ use Rattle.lists.specs.Lists.{All}
 use Rattle.tables.specs.Definitions.{Pair}
 use Rattle.decisions.specs.Decisions.{newest}
 use Rattle.rows.specs.Parts.{part, zeros}
-use Rattle.rows.specs.Rows.{Rows, tableOf}
+use Rattle.rows.specs.Rows.{Rows, rowsIn, tableOf}
 use Rattle.entries.specs.declared.Carry.{Carry}
 use Rattle.entries.specs.declared.Carry.the-variants.{Nothing, First}
 use Rattle.entries.specs.Carries.{Entry, valuesIn, Beside}
@@ -17,10 +17,22 @@ use Rattle.making.specs.Making.{entriesAt}
 use Rattle.workspace.specs.Workspace.{workspaceOf, Sound, pairsOf, valuesOf, valuesFrom}
 use Rattle.workspace.proofs.Areas.{workspace-long, area-newest, area-second, area-free, scratch-free}
 use Rattle.rows.proofs.Tables.{row-within}
-use Rattle.workspace.proofs.Acting.{sound-pairs, operand-rows, operand-entries}
+use Rattle.workspace.proofs.Acting.{sound-pairs, operand-rows, operand-pairs, operand-entries}
 use Rattle.operations.specs.Operations.{Loaded}
 
 -- ---- room for values
+
+pub from-first : (carry : Carry) (p i : ℕ) → carry ≡ First → i * p ≡ valuesFrom carry p i
+from-first Nothing p i e = let q : _≡_ {A = ℕ} 0 1 = cc in absurd (omega arith)
+from-first First p i e = refl
+
+from-within : (carry : Carry) (p i : ℕ) (vals : List ℕ) → Beside carry (i * p + p) vals → valuesFrom carry p i ≤ length vals
+from-within Nothing p i vals h = omega arith
+from-within First p i vals h = omega arith
+
+-- the words from o on
+pub rest-is : (o : ℕ) (xs : List ℕ) → take (length xs - o) (drop o xs) ≡ drop o xs
+rest-is o xs = take-all (length xs - o) (drop o xs) (simp length-drop (omega arith))
 
 module _ (carry : Carry) (d p i : ℕ) (vals : List ℕ) (l : i + 1 < d) (h : Beside carry ((d - 1) * p) vals) where
   pub beside-room : Beside carry (i * p + p) vals
@@ -30,25 +42,20 @@ module _ (carry : Carry) (d p i : ℕ) (vals : List ℕ) (l : i + 1 < d) (h : Be
       room Nothing h = tt
       room First h = omega (arith, row-within i (d - 1) p (omega arith))
 
-  pub beside-at : (n : ℕ) → n ≤ p → Beside carry n (drop (valuesFrom carry p i) vals)
+  beside-at : (n : ℕ) → n ≤ p → Beside carry n (drop (valuesFrom carry p i) vals)
   beside-at n g = there carry beside-room
     where
       there : (c : Carry) → Beside c (i * p + p) vals → Beside c n (drop (valuesFrom c p i) vals)
       there Nothing h = tt
       there First h = simp length-drop (omega arith)
 
-pub from-first : (carry : Carry) (p i : ℕ) → carry ≡ First → i * p ≡ valuesFrom carry p i
-from-first Nothing p i e = let q : _≡_ {A = ℕ} 0 1 = cc in absurd (omega arith)
-from-first First p i e = refl
+  -- where the values of table i begin, there is a word or the end
+  module _ (o : ℕ) (e : o ≡ valuesFrom carry p i) where
+    pub start-within : o ≤ length vals
+    start-within = omega (arith, e, from-within carry p i vals beside-room)
 
--- where values begin, there is a word or the end
-pub from-within : (carry : Carry) (p i : ℕ) (vals : List ℕ) → Beside carry (i * p + p) vals → valuesFrom carry p i ≤ length vals
-from-within Nothing p i vals h = omega arith
-from-within First p i vals h = omega arith
-
--- the words from o on
-pub rest-is : (o : ℕ) (xs : List ℕ) → take (length xs - o) (drop o xs) ≡ drop o xs
-rest-is o xs = take-all (length xs - o) (drop o xs) (simp length-drop (omega arith))
+    pub beside-rest : (n : ℕ) → n ≤ p → Beside carry n (take (length vals - o) (drop o vals))
+    beside-rest n g = rw (rest-is o vals, e) (beside-at n g)
 
 -- ---- the words
 
@@ -65,12 +72,11 @@ module _ {carry : Carry} {d w p t n m : ℕ} {ts : List (List Entry)} {beyond ws
   pub below : t < d
   below = omega (arith, h .holds .free, h .tables)
 
-  pub within : d * k ≤ length ws
+  within : d * k ≤ length ws
   within = let e = ap length (h .holds .words) ∙ workspace-long w p d beyond (map pairsOf ts) stack-sound (omega (arith, deep, below)) in omega arith
 
-  -- areas below the last one
-  pub area-within : (i : ℕ) → i < d → i * k + k ≤ d * k
-  area-within i l = row-within i d k l
+  pub inside : (i : ℕ) → i < d → i * k + k ≤ length ws
+  inside i l = omega (arith, row-within i d k l, within)
 
   -- the area behind area i begins where it ends
   pub area-behind : (i j : ℕ) → i + 1 ≡ j → i * k + k ≡ j * k
@@ -126,6 +132,9 @@ module _ {carry : Carry} {w p i : ℕ} {x : List Entry} {ws vals : List ℕ} (h 
 
   pub stands-rows : Rows w p n (part at (p * w) ws)
   stands-rows = operand-rows carry w p at n x ws vals (h .sound) there many
+
+  pub stands-pairs : rowsIn w n (part at (p * w) ws) ≡ pairsOf x
+  stands-pairs = operand-pairs carry w p at n x ws vals (h .sound) there many
 
   pub stands-few : n ≤ p
   stands-few = omega (arith, h .sound .few, length-map x (λ (y : Entry). y .item), many)

@@ -73,5 +73,5 @@ module _ {carry : Carry} {d w p t n m r : ℕ} {beyond ws ws' vals vals' made : 
       acted wide done us beyond vals vals' (filled carry a b) (ordered carry a b) (h .holds .sound .1 .1) (omega (arith, h .holds .free)) (h .holds .values .1 .1)
       (beside-room carry d p (length us) vals (omega (arith, h .holds .free)) room)
       (λ s. ap₂ (λ (k : ℕ) (v : List ℕ). put k (p * w) v (tableOf w p (pairsOf (tableOfAll carry cands)))) here cleared
-          ∙ changed w p d beyond (map pairsOf us) S (omega (arith, l, h .holds .free)) (pairsOf a) A (pairsOf (tableOfAll carry cands)))
+      ∙ changed w p d beyond (map pairsOf us) S (omega (arith, l, h .holds .free)) (pairsOf a) A (pairsOf (tableOfAll carry cands)))
       (λ g. moved g ∙ ap (λ (k : ℕ). placed carry (valuesFrom carry p k) r made vals) (sym i))

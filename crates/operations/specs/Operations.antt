@@ -1,14 +1,16 @@
 -- One command on the tables of a workspace. Assumes nothing.
 use mathlib.Core.Path.{_≡_}
 use mathlib.Core.List.{List, map}
-use Prim.Native.Nat.{ℕ, _-_, _*_, _≤_}
+use Prim.Native.Nat.{ℕ, _≤_}
 use lib.ListN.{length, drop}
 use Rattle.lists.specs.Lists.{products}
 use Rattle.labels.specs.Labels.{labelCount}
+use Rattle.expression.specs.declared.Command.{Command}
 use Rattle.decisions.specs.Decisions.{newest}
 use Rattle.entries.specs.declared.Carry.{Carry}
 use Rattle.entries.specs.Carries.{Entry, entryAlgebra, Kept}
 use Rattle.making.specs.Making.{tableOfAll}
+use Rattle.maps.specs.Maps.{mapped}
 use Rattle.workspace.specs.Workspace.{Holds, Acted}
 
 -- a workspace that holds t tables, the newest of n entries and the one below it of m
@@ -30,3 +32,7 @@ Acts carry d w p t n m f r ws vals ws' vals' made' =
 -- the union of two tables
 abbrev pub unitedTable : Carry → List Entry → List Entry → List Entry
 unitedTable carry a b = tableOfAll carry (products (entryAlgebra labelCount carry .united) a b)
+
+-- what a relabel or a connect makes of a table
+abbrev pub mappedTable : Carry → Command → List Entry → List Entry
+mappedTable carry c t = tableOfAll carry (map (mapped c) t)

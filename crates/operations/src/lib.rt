@@ -1,13 +1,16 @@
 // One command on the tables of a workspace.
 use entries::Carry;
+use expression::Command;
 ghost use mathlib.Core.Path.{_≡_};
-ghost use Prim.Native.Nat.{_+_, _-_, _*_, _≤_};
+ghost use Prim.Native.Nat.{ℕ, _+_, _-_, _*_, _≤_};
 ghost use lib.ListN.{length};
+ghost use Rattle.labels.specs.Labels.{labelCount};
+ghost use Rattle.expression.specs.Commands.{Suits};
 ghost use Rattle.expression.specs.Limits.{depthLimit};
-ghost use Rattle.semantics.specs.Expressions.{uniteNewest};
+ghost use Rattle.semantics.specs.Expressions.{uniteNewest, changeNewest};
 ghost use Rattle.entries.specs.Carries.{Beside, Kept};
 ghost use Rattle.workspace.specs.Workspace.{valuesFrom};
-ghost use Rattle.operations.specs.Operations.{Ready, Acts, unitedTable};
+ghost use Rattle.operations.specs.Operations.{Ready, Acts, unitedTable, mappedTable};
 
 // Where the values of table i begin.
 fn values_from(carry: Carry, p: usize, i: usize) -> usize
@@ -65,5 +68,50 @@ fn unite_newest(
     if r <= p {
         workspace::move_values(vals, made, carry, p, i, r);
     }
+    r
+}
+
+// The newest of t tables in d areas, of n entries, becomes what the command makes of it. Most commands leave most tables as they are.
+fn map_newest(
+    ws: &mut [u32],
+    row: &mut [u32],
+    index: &mut [u32],
+    made: &mut [u64],
+    vals: &mut [u64],
+    carry: Carry,
+    d: usize,
+    w: usize,
+    p: usize,
+    t: usize,
+    n: usize,
+    c: Command,
+) -> usize
+    requires { ⌜ (2 ≤ w) × (w ≤ 4096) × (p ≤ 1024) × (d ≤ depthLimit + 1) × (length (now row) ≡ w) × (p ≤ length (now index)) ⌝ }
+    requires { ⌜ Kept carry p 0 (now made) × Beside carry ((d - 1) * p) (now vals) × Suits labelCount c ⌝ }
+    requires { ⌜ (1 ≤ t) × ((m : ℕ) × Ready carry d w p t n m (now ws) (now vals)) ⌝ }
+    ensures { λ r. ⌜ ((m : ℕ) → Acts carry d w p t n m (changeNewest (mappedTable carry c)) r (now (ws .entry)) (now (vals .entry)) (now (ws .exit)) (now (vals .exit)) (now (made .exit))) ⌝ }
+{
+    let area = p * w;
+    let i = t - 1;
+    let a = i * area;
+    if !maps::changes_table(&ws[..], w, p, a, n, c) {
+        return n;
+    }
+    let o = values_from(carry, p, i);
+    let r = maps::map_table(
+        ws,
+        row,
+        index,
+        made,
+        &vals[o..],
+        carry,
+        w,
+        p,
+        a,
+        n,
+        (d - 1) * area,
+        c,
+    );
+    workspace::move_values(vals, made, carry, p, i, r);
     r
 }

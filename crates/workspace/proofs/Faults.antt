@@ -73,6 +73,12 @@ module _ (w : ℕ) (wide : 2 ≤ w) where
   not-some : (t : List Pair) → All (λ x. 0 < length x) t → some exceeds t ≡ false → All (Fit w) t
   not-some t l h = all-of (Fit w) t (λ x m. not-fits x (all-at (λ y. 0 < length y) t l m) (none-some exceeds t h m))
 
+-- a table that can be kept is refused by neither
+pub no-fault : (w p n : ℕ) → 2 ≤ w → (t : List Pair) → Sound w p t → length t ≡ n → faultOf p n ≡ pairsFault p (w - 2) t
+unfolding faultOf pairsFault
+no-fault w p n wide t s e =
+    rw (some-not w wide t (s .fit), le-ltb p (length t) (s .few), le-ltb (p + 1) n (omega (arith, s .few)), le-ltb p n (omega (arith, s .few)))
+
 module _ {carry : Carry} {w p at : ℕ} {cands : List Entry} {r : ℕ} {ws cleared ws' made : List ℕ} (wide : 2 ≤ w) (h : Finished carry w p at cands r ws cleared ws' made) where
   abbrev T : List Pair
   T = pairsOf (tableOfAll carry cands)

@@ -8,7 +8,7 @@ use Rattle.semantics.specs.Expressions.{uniteNewest}
 use Rattle.rows.proofs.Tables.{row-within}
 use Rattle.workspace.specs.Workspace.{valuesFrom, placed, Acted}
 use Rattle.operations.specs.Operations.{Loaded, unitedTable}
-use Rattle.operations.proofs.Loads.{beside-room, beside-at, from-within, rest-is, below, within, area-within, area-behind, scratch-zero, newer-stands, older-stands, stands-rows, stands-few}
+use Rattle.operations.proofs.Loads.{rest-is, beside-room, start-within, beside-rest, below, inside, area-behind, scratch-zero, newer-stands, older-stands, stands-rows, stands-few}
 use Rattle.operations.proofs.Uniting.{united-acted}
 use borrow.Author.Needs.{needs}
 use native.Mathlib.Omega.{arith}
@@ -34,24 +34,12 @@ module _ (s : tie.Start) where
   deep : i + 1 < s .args .d - 1
   deep = omega (arith, below (held s), s .pre .1 .1 .0)
 
-  inside : (j : ℕ) → j < s .args .d → j * k + k ≤ length (s .args .ws .now)
-  inside j l = omega (arith, area-within (held s) j l, within (held s))
-
   one : k ≤ length (s .args .ws .now)
-  one = omega (arith, inside 0 (omega (arith, deep)))
+  one = omega (arith, inside (held s) 0 (omega (arith, deep)))
 
   -- the newer table begins where the older one ends
   behind : i * k + k ≡ (s .args .t - 1) * k
   behind = area-behind (held s) i (s .args .t - 1) (omega (arith, s .pre .1 .1 .0))
-
-  room : (j : ℕ) → j + 1 < s .args .d → Beside (s .args .carry) (j * s .args .p + s .args .p) (s .args .vals .now)
-  room j l = beside-room (s .args .carry) (s .args .d) (s .args .p) j (s .args .vals .now) l (s .pre .1 .0 .1)
-
-  start-within : (j o : ℕ) → j + 1 < s .args .d → o ≡ valuesFrom (s .args .carry) (s .args .p) j → o ≤ length (s .args .vals .now)
-  start-within j o l e = omega (arith, e, from-within (s .args .carry) (s .args .p) j (s .args .vals .now) (room j l))
-
-  beside : (j o n : ℕ) → j + 1 < s .args .d → o ≡ valuesFrom (s .args .carry) (s .args .p) j → n ≤ s .args .p → Beside (s .args .carry) n (take (length (s .args .vals .now) - o) (drop o (s .args .vals .now)))
-  beside j o n l e g = rw (rest-is o (s .args .vals .now), e) (beside-at (s .args .carry) (s .args .d) (s .args .p) j (s .args .vals .now) l (s .pre .1 .0 .1) n g)
 
 abbrev start : tie.After-values-from2 → tie.Start
 start c = c .before .before .before .before .before .before .before .before
@@ -69,10 +57,10 @@ is-right : (c : tie.After-values-from2) → right c ≡ valuesFrom (start c .arg
 is-right c = c .values-from2 .ensures ∙ ap (valuesFrom (start c .args .carry) (start c .args .p)) (let z : i (start c) + 1 ≡ start c .args .t - 1 = omega (arith, start c .pre .1 .1 .0) in z)
 
 left-within : (c : tie.After-values-from2) → left c ≤ length (start c .args .vals .now)
-left-within c = start-within (start c) (i (start c)) (left c) (omega (arith, deep (start c))) (is-left c)
+left-within c = let s = start c in start-within (s .args .carry) (s .args .d) (s .args .p) (i s) (s .args .vals .now) (omega (arith, deep s)) (s .pre .1 .0 .1) (left c) (is-left c)
 
 right-within : (c : tie.After-values-from2) → right c ≤ length (start c .args .vals .now)
-right-within c = start-within (start c) (start c .args .t - 1) (right c) (omega (arith, deep (start c))) (is-right c)
+right-within c = let s = start c in start-within (s .args .carry) (s .args .d) (s .args .p) (s .args .t - 1) (s .args .vals .now) (omega (arith, deep s)) (s .pre .1 .0 .1) (right c) (is-right c)
 
 -- ---- what the union leaves
 
@@ -97,7 +85,7 @@ sub-i c = search needs
 
 mul-a : tie.Need-mul-a
 mul-a c =
-    let s = c .before .before .before .before .before in omega (arith, inside s (i s) (omega (arith, deep s)))
+    let s = c .before .before .before .before .before in omega (arith, inside (held s) (i s) (omega (arith, deep s)))
 
 values-from-requires : tie.Need-values-from-requires
 values-from-requires c κs = search needs
@@ -134,14 +122,14 @@ part-unite-tables-end-2 c = search needs
 
 add-unite-tables : tie.Need-add-unite-tables
 add-unite-tables c =
-    let s = start (c .before .before .before .before .before .before) in omega (arith, inside s (i s) (omega (arith, deep s)))
+    let s = start (c .before .before .before .before .before .before) in omega (arith, inside (held s) (i s) (omega (arith, deep s)))
 
 sub-unite-tables-3 : tie.Need-sub-unite-tables-3
 sub-unite-tables-3 c = search needs
 
 mul-unite-tables-3 : tie.Need-mul-unite-tables-3
 mul-unite-tables-3 c =
-    let s = start (c .before .before .before .before .before .before) in omega (arith, inside s (s .args .d - 1) (omega (arith, deep s)))
+    let s = start (c .before .before .before .before .before .before) in omega (arith, inside (held s) (s .args .d - 1) (omega (arith, deep s)))
 
 unite-tables-requires : tie.Need-unite-tables-requires
 unite-tables-requires c κs =
@@ -151,9 +139,9 @@ unite-tables-requires c κs =
     let B = newer-stands (s .pre .1 .1 .1 .0) (held s) (omega (arith, s .pre .1 .1 .0)) in (
       (s .pre .0 .0, s .pre .0 .1, s .pre .0 .2, s .pre .0 .4),
       (
-        (omega arith, omega (arith, behind s, row-within (s .args .t - 1) (s .args .d - 1) (k s) (omega (arith, deep s))), omega (arith, inside s (s .args .d - 1) (omega (arith, deep s)))),
+        (omega arith, omega (arith, behind s, row-within (s .args .t - 1) (s .args .d - 1) (k s) (omega (arith, deep s))), omega (arith, inside (held s) (s .args .d - 1) (omega (arith, deep s)))),
         (
-          (stands-rows A (i s * k s) (s .args .m) refl (held s .older), stands-rows B (i s * k s + k s) (s .args .n) (behind s) (held s .newer), beside s (i s) (left v) (s .args .m) (omega (arith, deep s)) (is-left v) (stands-few A (i s * k s) (s .args .m) refl (held s .older)), beside s (s .args .t - 1) (right v) (s .args .n) (omega (arith, deep s)) (is-right v) (stands-few B (i s * k s + k s) (s .args .n) (behind s) (held s .newer))),
+          (stands-rows A (i s * k s) (s .args .m) refl (held s .older), stands-rows B (i s * k s + k s) (s .args .n) (behind s) (held s .newer), beside-rest (s .args .carry) (s .args .d) (s .args .p) (i s) (s .args .vals .now) (omega (arith, deep s)) (s .pre .1 .0 .1) (left v) (is-left v) (s .args .m) (stands-few A (i s * k s) (s .args .m) refl (held s .older)), beside-rest (s .args .carry) (s .args .d) (s .args .p) (s .args .t - 1) (s .args .vals .now) (omega (arith, deep s)) (s .pre .1 .0 .1) (right v) (is-right v) (s .args .n) (stands-few B (i s * k s + k s) (s .args .n) (behind s) (held s .newer))),
           (scratch-zero (held s), s .pre .0 .5, s .pre .1 .0 .0),
         ),
       ),
@@ -164,7 +152,7 @@ move-values-requires c κs =
     let g = c .before .before in
     let u = g .before .before .before .before .before .before .before .before .before in
     let s = start (origin u) in
-    (u .unite-tables .ensures .kept (omega (arith, g .if1 .taken)), room s (i s) (omega (arith, deep s)), omega (arith, g .if1 .taken))
+    (u .unite-tables .ensures .kept (omega (arith, g .if1 .taken)), beside-room (s .args .carry) (s .args .d) (s .args .p) (i s) (s .args .vals .now) (omega (arith, deep s)) (s .pre .1 .0 .1), omega (arith, g .if1 .taken))
 
 same-length : tie.Need-same-length
 same-length c = search needs
