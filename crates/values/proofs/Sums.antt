@@ -17,9 +17,10 @@ use Rattle.semantics.specs.AnswerSets.{Assumptions, allObeying, ofList}
 use Rattle.semantics.proofs.Interpretations.{Distinct}
 use Rattle.tables.specs.Algebras.{Algebra, entry, leaf, tables, table}
 use Rattle.tables.proofs.Entries.{table-rising}
+use Rattle.tables.proofs.Morphisms.{table-map}
 use Rattle.values.specs.Values.{Values, Valued, valued, Total, none, worth, add, multiply, sumBy, sumOver}
 use Rattle.values.proofs.Semirings.{Semiring, add-assoc, add-turn, multiply-together, multiply-either, multiply-add, multiply-unit, none-add, add-none, multiply-none}
-use Rattle.values.proofs.Items.{items, items-table, entry-valued, lists, lists-entries}
+use Rattle.values.proofs.Items.{items, item-morphism, entry-valued, lists, lists-entries}
 
 module _ {X W : Type 0} (A : Algebra X) (O : Lawful (A .order) (A .merge)) (R : Values W) (L : Semiring R) where
   abbrev Entry : Type 0
@@ -137,12 +138,12 @@ module _ {X W : Type 0} (A : Algebra X) (O : Lawful (A .order) (A .merge)) (R : 
   before : {x y : X} → A .order x y ≡ Less → (A .order x y ≡ Same → ⊥) × (A .order y x ≡ Same → ⊥)
   before {x} {y} h = (λ e. let z : _≡_ {A = ℕ} 0 1 = cc in omega arith, λ e. let z : _≡_ {A = ℕ} 0 1 = cc (O .self x, ap (A .order x) (O .same y x e)) in omega arith)
 
-  others : (x : X) (l : List Entry) → All (λ y. A .order x y ≡ Less) (items A R (O .keeps) l) → sumBy R (at x) l ≡ none
+  others : (x : X) (l : List Entry) → All (λ y. A .order x y ≡ Less) (items l) → sumBy R (at x) l ≡ none
   unfolding sumBy
   others x [] h = refl
   others x (y ∷ l) h = ap₂ (add R) (ap (multiply R (worth (y .value))) (at-other (before (h .0) .0)) ∙ multiply-none R (worth (y .value))) (others x l (h .1)) ∙ none-add R none
 
-  own : {x : Entry} (l : List Entry) → Rising (A .order) (items A R (O .keeps) l) → List·Memᴰ x l → sumBy R (at (x .item)) l ≡ worth (x .value)
+  own : {x : Entry} (l : List Entry) → Rising (A .order) (items l) → List·Memᴰ x l → sumBy R (at (x .item)) l ≡ worth (x .value)
   unfolding sumBy Rising
   own [] r m = absurd (List·Memᴰ·not-nil m)
   own {x} (y ∷ l) r m = step (λ n. own l (r .1) n) (List·Memᴰ·cases-cons m)
@@ -156,10 +157,10 @@ module _ {X W : Type 0} (A : Algebra X) (O : Lawful (A .order) (A .merge)) (R : 
       step : (List·Memᴰ x l → sumBy R (at (x .item)) l ≡ worth (x .value)) → (x ≡ y) ⊎ List·Memᴰ x l → add R (term (at (x .item)) y) (sumBy R (at (x .item)) l) ≡ worth (x .value)
       step f (inl e) = rw e head
       step f (inr n) =
-          let b = all-at (λ z. A .order (y .item) z ≡ Less) (items A R (O .keeps) l) (r .0) (Memᴰ·map (λ z. z .item) n) in
+          let b = all-at (λ z. A .order (y .item) z ≡ Less) (items l) (r .0) (Memᴰ·map (λ z. z .item) n) in
           ap₂ (add R) (ap (multiply R (worth (y .value))) (at-other (before b .1)) ∙ multiply-none R (worth (y .value))) (f n) ∙ none-add R (worth (x .value))
 
   -- THE VALUE at an entry is the sum over the interpretations that give it
   pub value-at : (o : Assumptions) (e : Expr) → Distinct e → (x : Entry) → List·Memᴰ x (table A′ o e) → worth (x .value) ≡ sumOver R A (at (x .item)) e (allObeying o (numbers e))
   value-at o e d x m =
-      sym (own (table A′ o e) (rw (items-table A R (O .keeps) o e) (table-rising A O o e)) m) ∙ table-sum o e d (at (x .item))
+      sym (own (table A′ o e) (rw (table-map (item-morphism A R (O .keeps)) o e) (table-rising A O o e)) m) ∙ table-sum o e d (at (x .item))
