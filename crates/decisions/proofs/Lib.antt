@@ -2,3 +2,4 @@ pub mod Walks
 pub mod Demands
 pub mod Shown
 pub mod Starred
+pub mod Carried
