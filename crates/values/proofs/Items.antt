@@ -37,14 +37,15 @@ item-morphism A R keeps = record {
 
 -- ---- the entry of an interpretation has the interpretation's value
 
-module _ {X W : Type 0} (A : Algebra X) (R : Values W) (L : Semiring R) where
-  value-append : (xs ys : List ℕ) (p : Interpretation) → valueOf R (xs ++ ys) p ≡ R .together (valueOf R xs p) (valueOf R ys p)
+module _ {W : Type 0} (R : Values W) (L : Semiring R) where
+  pub value-append : (xs ys : List ℕ) (p : Interpretation) → valueOf R (xs ++ ys) p ≡ R .together (valueOf R xs p) (valueOf R ys p)
   unfolding valueOf
   value-append [] ys p = sym (L .unit-together (valueOf R ys p))
   value-append (x ∷ xs) ys p =
       ap (R .together (cond (p x) (R .present x) (R .absent x))) (value-append xs ys p)
       ∙ sym (L .together-assoc (cond (p x) (R .present x) (R .absent x)) (valueOf R xs p) (valueOf R ys p))
 
+module _ {X W : Type 0} (A : Algebra X) (R : Values W) (L : Semiring R) where
   pub entry-valued : (e : Expr) (p : Interpretation) → entry (valued A R) e p ≡ record { item = entry A e p; value = valueOf R (numbers e) p }
   unfolding entry entries fold valued numbers valueOf
   entry-valued (atom c g) p = step (p c)
@@ -56,7 +57,7 @@ module _ {X W : Type 0} (A : Algebra X) (R : Values W) (L : Semiring R) where
   entry-valued (rule g) p = refl
   entry-valued (union e f) p =
       ap₂ (valued A R .united) (entry-valued e p) (entry-valued f p)
-      ∙ (λ i. record { item = A .united (entry A e p) (entry A f p); value = sym (value-append (numbers e) (numbers f) p) i })
+      ∙ (λ i. record { item = A .united (entry A e p) (entry A f p); value = sym (value-append R L (numbers e) (numbers f) p) i })
   entry-valued (relabel i j e) p = ap (valued A R .relabelled i j) (entry-valued e p)
   entry-valued (connect k i j e) p = ap (valued A R .connected k i j) (entry-valued e p)
 
