@@ -11,7 +11,7 @@ use Rattle.lists.proofs.Runs.{length-run}
 use Rattle.lists.proofs.Members.{not-true-false}
 use Rattle.expression.specs.Limits.{atomLimit}
 use Rattle.expression.specs.Reading.{reading}
-use Rattle.expression.specs.Checks.{Request}
+use Rattle.expression.specs.Checks.{Request, countsOf}
 use Rattle.semantics.specs.Expressions.{Expr}
 use Rattle.semantics.specs.Programs.{numbers}
 use Rattle.semantics.specs.AnswerSets.{Interpretation, Obeys, Model, AnswerSet, ofMask, maskOf}
@@ -30,11 +30,12 @@ pub record Tree (K : ℕ) (s : List ℕ) : Type 0 where
   pub distinct : Distinct (expressionOf K s)
   pub count : ℕ
   pub numbered : numbers (expressionOf K s) ≡ run 0 count
+  pub counted : countsOf (reading K s) .atoms ≡ count
   pub few : count ≤ atomLimit
 
 pub tree-of : (K : ℕ) (a : Request) → Readable a (reading K (a .bytes)) → Tree K (a .bytes)
 unfolding expressionOf
-tree-of K a r = let t = readable-tree K a (reading K (a .bytes)) refl r in record { fits = t .fits; distinct = t .distinct; count = t .count; numbered = t .numbered; few = t .few }
+tree-of K a r = let t = readable-tree K a (reading K (a .bytes)) refl r in record { fits = t .fits; distinct = t .distinct; count = t .count; numbered = t .numbered; counted = t .counted; few = t .few }
 
 answer-yes : (b : Bool) → affirmed ≡ answer b → b ≡ true
 unfolding answer

@@ -3,3 +3,4 @@ pub mod Demands
 pub mod Shown
 pub mod Starred
 pub mod Carried
+pub mod Words
