@@ -4,3 +4,4 @@ pub mod Shown
 pub mod Starred
 pub mod Carried
 pub mod Words
+pub mod Outcomes

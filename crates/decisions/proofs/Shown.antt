@@ -24,8 +24,9 @@ use Rattle.values.specs.Values.{valued, valueOf, Total, none, worth, sumBy, sum
 use Rattle.values.specs.First.{firstWeight, firsts, passing, shownBy, NotBefore}
 use Rattle.values.proofs.First.{Least, least-is, least-least, table-least, shown-agrees, value-first}
 use Rattle.decisions.specs.Decisions.{affirmed, assumed, grounded, expressionOf, Shows}
+use Rattle.decisions.specs.Outcomes.{NoAnswerSet}
 use Rattle.decisions.proofs.Walks.{Settled}
-use Rattle.decisions.proofs.Demands.{Tree, NoAnswerSet, grounded-affirmed}
+use Rattle.decisions.proofs.Demands.{Tree, grounded-affirmed}
 
 -- ---- the order of interpretations goes by their atoms
 
