@@ -19,7 +19,8 @@ use Rattle.rows.specs.Inserted.{There, Inserted}
 use Rattle.rows.proofs.Indexing.{sorted-long}
 use Rattle.entries.specs.declared.Carry.{Carry}
 use Rattle.entries.specs.declared.Carry.the-variants.{Nothing, First}
-use Rattle.entries.specs.Carries.{carriedBy, valuesIn, Kept, Entry, entryAlgebra}
+use Rattle.entries.specs.Carries.{carriedBy, valuesIn, Beside, Kept, Entry, entryAlgebra}
+use Rattle.entries.proofs.Keeping.{kept-beside}
 use Rattle.entries.specs.Entries.{withValues, entriesOf, entered, Entered}
 
 -- ---- pairs with values, place by place
@@ -105,16 +106,16 @@ module _ (carry : Carry) where
 
 -- ---- what putting a row and its value in leaves
 
-pub values-long : (carry : Carry) (p m : ℕ) (vals : List ℕ) → m ≤ p → Kept carry p m vals → length (valuesIn carry m vals) ≡ m
-values-long Nothing p m vals l h = length-replicate m 0
-values-long First p m vals l h = length-take-le m vals (omega (arith, h .1))
+pub values-long : (carry : Carry) (m : ℕ) (vals : List ℕ) → Beside carry m vals → length (valuesIn carry m vals) ≡ m
+values-long Nothing m vals h = length-replicate m 0
+values-long First m vals h = length-take-le m vals h
 
 module _ (carry : Carry) (w p m : ℕ) (x : Pair) (v : ℕ) (area index vals area' index' vals' : List ℕ) (h : Indexed w p m area index) (kept : Kept carry p m vals) where
   abbrev S : List Pair
   S = sortedOf w m area index
 
   as-long : length (valuesIn carry m vals) ≡ length S
-  as-long = values-long carry p m vals (h .room) kept ∙ sym (sorted-long h)
+  as-long = values-long carry m vals (kept-beside carry p m vals (h .room) kept) ∙ sym (sorted-long h)
 
   pub entry-new : (k : ℕ) → Inserted w p m x area index area' index' (New k) → Kept carry p (m + 1) vals'
       → valuesIn carry (m + 1) vals' ≡ take k (valuesIn carry m vals) ++ v ∷ drop k (valuesIn carry m vals)

@@ -12,7 +12,7 @@ use Rattle.rows.proofs.Parts.{zeros-long, drop-zeros}
 use Rattle.rows.proofs.Indexing.{pushed}
 use Rattle.entries.specs.declared.Carry.{Carry}
 use Rattle.entries.specs.declared.Carry.the-variants.{Nothing, First}
-use Rattle.entries.specs.Carries.{carriedBy, Keeps, valuesIn, Kept}
+use Rattle.entries.specs.Carries.{carriedBy, Keeps, valuesIn, Beside, Kept}
 
 -- a number put among zeros
 pub zeros-push : (k m : ℕ) → k ≤ m → zeros (m + 1) ≡ take k (zeros m) ++ 0 ∷ drop k (zeros m)
@@ -48,6 +48,15 @@ nothing-merged First p m k v vals e h l = let q : _≡_ {A = ℕ} 0 1 = cc in ab
 pub first-long : (carry : Carry) (p m : ℕ) (vals : List ℕ) → carry ≡ First → Kept carry p m vals → length vals ≡ p
 first-long Nothing p m vals e h = let q : _≡_ {A = ℕ} 0 1 = cc in absurd (omega arith)
 first-long First p m vals e h = h .1
+
+-- the words hold the value of each of m rows
+pub beside-long : (carry : Carry) (m : ℕ) (vals : List ℕ) → carry ≡ First → Beside carry m vals → m ≤ length vals
+beside-long Nothing m vals e h = let q : _≡_ {A = ℕ} 0 1 = cc in absurd (omega arith)
+beside-long First m vals e h = h
+
+pub kept-beside : (carry : Carry) (p m : ℕ) (vals : List ℕ) → m ≤ p → Kept carry p m vals → Beside carry m vals
+kept-beside Nothing p m vals l h = tt
+kept-beside First p m vals l h = omega (arith, h .1)
 
 pub value-is : (carry : Carry) (m i : ℕ) (vals : List ℕ) → carry ≡ First → i < m → getD vals i 0 ≡ getD (valuesIn carry m vals) i 0
 value-is Nothing m i vals e l = let q : _≡_ {A = ℕ} 0 1 = cc in absurd (omega arith)

@@ -1,7 +1,7 @@
 -- What is carried beside the rows of a table in 64-bit words: nothing, or the value of the first interpretation. Assumes nothing.
 use mathlib.Core.List.{List, [], _++_}
 use mathlib.Core.Path.{_≡_}
-use Prim.Native.Nat.{ℕ, _-_}
+use Prim.Native.Nat.{ℕ, _-_, _≤_}
 use lib.ListN.{take, length}
 use Rattle.tables.specs.Algebras.{Algebra}
 use Rattle.tables.specs.Definitions.{Pair, pairs}
@@ -25,6 +25,11 @@ Keeps First v = Unit {0}
 abbrev pub valuesIn : Carry → ℕ → List ℕ → List ℕ
 valuesIn Nothing m vals = zeros m
 valuesIn First m vals = take m vals
+
+-- the words that hold the values of m rows, and perhaps more
+abbrev pub Beside : Carry → ℕ → List ℕ → Type 0
+Beside Nothing m vals = Unit {0}
+Beside First m vals = m ≤ length vals
 
 -- the words of the values of an area of p rows, m of them taken: zeros behind them
 abbrev pub Kept : Carry → ℕ → ℕ → List ℕ → Type 0

@@ -6,7 +6,7 @@ ghost use Prim.Native.Nat.{ℕ, _+_, _-_, _*_, _≤_, _<_, min};
 ghost use lib.ListN.{length, take, drop, getD};
 ghost use Rattle.candidates.specs.Candidates.{pairOf, Readable};
 ghost use Rattle.rows.specs.Rows.{Indexed};
-ghost use Rattle.entries.specs.Carries.{carriedBy, Keeps, valuesIn, Kept};
+ghost use Rattle.entries.specs.Carries.{carriedBy, Keeps, valuesIn, Beside, Kept};
 ghost use Rattle.entries.specs.Entries.{Entered};
 
 // What the words beside the rows keep.
@@ -42,9 +42,8 @@ pub fn together(carry: Carry, a: u64, b: u64) -> u64
 }
 
 // The value of row i of m.
-pub fn value_at(vals: &[u64], carry: Carry, p: usize, m: usize, i: usize) -> u64
-    requires { ⌜ Kept carry p m (now vals) ⌝ }
-    requires { ⌜ (i < m) × (m ≤ p) ⌝ }
+pub fn value_at(vals: &[u64], carry: Carry, m: usize, i: usize) -> u64
+    requires { ⌜ Beside carry m (now vals) × (i < m) ⌝ }
     ensures { λ r. ⌜ r ≡ getD (valuesIn carry m (now (vals .entry))) i 0 ⌝ }
 {
     match carry {

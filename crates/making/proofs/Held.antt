@@ -15,12 +15,12 @@ use Rattle.rows.proofs.Parts.{part-part}
 use Rattle.rows.proofs.Tables.{row-within, length-rowsIn, rowsIn-at, slot-at}
 use Rattle.rows.proofs.Single.{row-readable}
 use Rattle.entries.specs.declared.Carry.{Carry}
-use Rattle.entries.specs.Carries.{valuesIn, Kept, Entry}
+use Rattle.entries.specs.Carries.{valuesIn, Beside, Entry}
 use Rattle.entries.proofs.Entering.{none, length-with, with-at, values-long}
 use Rattle.making.specs.Making.{entryAt, entriesAt}
 
 -- the n entries of the area at word b
-module _ (carry : Carry) (w p b n : ℕ) (others wsₛ : List ℕ) (within : b + p * w ≤ length wsₛ) (t : Rows w p n (part b (p * w) wsₛ)) (kept : Kept carry p n others) where
+module _ (carry : Carry) (w p b n : ℕ) (others wsₛ : List ℕ) (within : b + p * w ≤ length wsₛ) (t : Rows w p n (part b (p * w) wsₛ)) (beside : Beside carry n others) where
   abbrev area : List ℕ
   area = part b (p * w) wsₛ
 
@@ -44,7 +44,7 @@ module _ (carry : Carry) (w p b n : ℕ) (others wsₛ : List ℕ) (within : b +
   pub entry-at : (j : ℕ) → j < n → (v : ℕ) → v ≡ getD (valuesIn carry n others) j 0 → (ws : List ℕ) → part (b + j * w) w ws ≡ part (b + j * w) w wsₛ → getD bs j none ≡ entryAt w (b + j * w) v ws
   entry-at j l v ev ws e =
       let k = length-rowsIn w n area in
-      with-at (rowsIn w n area) (valuesIn carry n others) j (values-long carry p n others (t .room) kept ∙ sym k) (omega (arith, k))
+      with-at (rowsIn w n area) (valuesIn carry n others) j (values-long carry n others beside ∙ sym k) (omega (arith, k))
       ∙ (λ i. record { item = (rowsIn-at w n area j l ∙ ap pairOf (row-of j l ∙ sym e)) i; value = sym ev i })
 
   pub entries-from : (j : ℕ) → j < n → drop j bs ≡ getD bs j none ∷ drop (j + 1) bs

@@ -40,9 +40,12 @@ part-low a k b l xs ys h m =
     rw (drop-append-le a (take b xs) (ys ++ drop l (drop b xs)) (omega arith), take-append-le k (drop a (take b xs)) (ys ++ drop l (drop b xs)) (simp length-drop (omega arith)), front)
     (take-take k (b - a) (drop a xs) (omega arith))
 
--- a part put into a list that is split there
-put-at : (a k : ℕ) (p q r ys : List ℕ) → length p ≡ a → length q ≡ k → put a k (p ++ (q ++ r)) ys ≡ p ++ (ys ++ r)
+-- a part put into a list that is split there, and the part there
+pub put-at : (a k : ℕ) (p q r ys : List ℕ) → length p ≡ a → length q ≡ k → put a k (p ++ (q ++ r)) ys ≡ p ++ (ys ++ r)
 put-at a k p q r ys e f = rw (take-at p (q ++ r) a e, drop-at p (q ++ r) a e, drop-at q r k f)
+
+pub part-at : (a k : ℕ) (p q r : List ℕ) → length p ≡ a → length q ≡ k → part a k (p ++ (q ++ r)) ≡ q
+part-at a k p q r e f = rw (drop-at p (q ++ r) a e, take-at q r k f)
 
 -- a list as a front, two parts with something between, and the rest
 split : (a k b l : ℕ) (xs : List ℕ) → a + k ≤ b → b + l ≤ length xs

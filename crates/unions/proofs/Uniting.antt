@@ -14,14 +14,14 @@ use Rattle.rows.specs.Parts.{part}
 use Rattle.rows.specs.Rows.{Rows}
 use Rattle.entries.specs.declared.Carry.{Carry}
 use Rattle.entries.specs.declared.Carry.the-variants.{Nothing, First}
-use Rattle.entries.specs.Carries.{carriedBy, Keeps, valuesIn, Kept, Entry, entryAlgebra}
+use Rattle.entries.specs.Carries.{carriedBy, Keeps, valuesIn, Beside, Entry, entryAlgebra}
 use Rattle.entries.proofs.Entering.{none}
 use Rattle.making.specs.Making.{FitEntry, entryAt, entriesAt}
 use Rattle.making.proofs.Held.{entries-long, entry-at, entries-from}
 use Rattle.unions.specs.Unions.{unitedAt}
 
 -- one entry with each of the n entries of the area at word b
-module _ (carry : Carry) (w p b n : ℕ) (others wsₛ : List ℕ) (within : b + p * w ≤ length wsₛ) (t : Rows w p n (part b (p * w) wsₛ)) (kept : Kept carry p n others) (ra va : ℕ) where
+module _ (carry : Carry) (w p b n : ℕ) (others wsₛ : List ℕ) (within : b + p * w ≤ length wsₛ) (t : Rows w p n (part b (p * w) wsₛ)) (beside : Beside carry n others) (ra va : ℕ) where
   abbrev bs : List Entry
   bs = entriesAt carry w p b n others wsₛ
 
@@ -33,18 +33,18 @@ module _ (carry : Carry) (w p b n : ℕ) (others wsₛ : List ℕ) (within : b +
     candidate : unite (getD bs j none) ≡ unitedAt w ra (b + j * w) v ws
     unfolding entryAlgebra valued pairs
     candidate =
-        ap unite (entry-at carry w p b n others wsₛ within t kept j l (getD (valuesIn carry n others) j 0) refl ws eb)
+        ap unite (entry-at carry w p b n others wsₛ within t beside j l (getD (valuesIn carry n others) j 0) refl ws eb)
         ∙ (λ i. record { item = unitePairs (pairOf (sym ea i)) (pairOf (part (b + j * w) w ws)); value = sym ev i })
 
     pub next-is : map unite (drop j bs) ≡ unitedAt w ra (b + j * w) v ws ∷ map unite (drop (j + 1) bs)
-    next-is = ap (map unite) (entries-from carry w p b n others wsₛ within t kept j l) ∙ ap (λ (y : Entry). y ∷ map unite (drop (j + 1) bs)) candidate
+    next-is = ap (map unite) (entries-from carry w p b n others wsₛ within t beside j l) ∙ ap (λ (y : Entry). y ∷ map unite (drop (j + 1) bs)) candidate
 
     -- where all candidates fit, so does this one
     pub fit-next : All (FitEntry w) (map unite bs) → FitEntry w (unitedAt w ra (b + j * w) v ws)
     fit-next a = subst (All (FitEntry w)) (sym (map-drop unite j bs) ∙ next-is) (all-drop (FitEntry w) j (map unite bs) a) .0
 
 -- the na entries of one table with each of the others, bs, which are as they were
-module _ (carry : Carry) (w p a na : ℕ) (left wsₛ : List ℕ) (within : a + p * w ≤ length wsₛ) (t : Rows w p na (part a (p * w) wsₛ)) (kept : Kept carry p na left)
+module _ (carry : Carry) (w p a na : ℕ) (left wsₛ : List ℕ) (within : a + p * w ≤ length wsₛ) (t : Rows w p na (part a (p * w) wsₛ)) (beside : Beside carry na left)
     (bs bs′ : List Entry) (same : bs′ ≡ bs) (i : ℕ) (l : i < na) (va : ℕ) (ev : va ≡ getD (valuesIn carry na left) i 0) (ws : List ℕ) (ea : part (a + i * w) w ws ≡ part (a + i * w) w wsₛ) where
   abbrev xs : List Entry
   xs = entriesAt carry w p a na left wsₛ
@@ -53,10 +53,10 @@ module _ (carry : Carry) (w p a na : ℕ) (left wsₛ : List ℕ) (within : a + 
   united = entryAlgebra labelCount carry .united
 
   here : getD xs i none ≡ entryAt w (a + i * w) va ws
-  here = entry-at carry w p a na left wsₛ within t kept i l va ev ws ea
+  here = entry-at carry w p a na left wsₛ within t beside i l va ev ws ea
 
   within-as : i < length xs
-  within-as = omega (arith, entries-long carry w p a na left wsₛ within t kept)
+  within-as = omega (arith, entries-long carry w p a na left wsₛ within t beside)
 
   pub products-next : (rest : List Entry) → products united (drop i xs) bs ++ rest ≡ map (united (entryAt w (a + i * w) va ws)) bs′ ++ (products united (drop (i + 1) xs) bs ++ rest)
   products-next rest =

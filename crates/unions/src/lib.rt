@@ -9,7 +9,7 @@ ghost use Rattle.rows.specs.Parts.{part, put, zeros};
 ghost use Rattle.lists.specs.Lists.{products};
 ghost use Rattle.labels.specs.Labels.{labelCount};
 ghost use Rattle.rows.specs.Rows.{Rows};
-ghost use Rattle.entries.specs.Carries.{Keeps, Kept, entryAlgebra};
+ghost use Rattle.entries.specs.Carries.{Keeps, Beside, Kept, entryAlgebra};
 ghost use Rattle.making.specs.Making.{Next, Steps, Finished, entryAt, entriesAt};
 ghost use Rattle.unions.specs.Unions.{unitedAt};
 
@@ -62,7 +62,7 @@ pub fn unite_with_all(
 ) -> usize
     requires { ⌜ (2 ≤ w) × (w ≤ 4096) × (p ≤ 1024) × (length (now row) ≡ w) ⌝ }
     requires { ⌜ (ra + w ≤ to) × (b + p * w ≤ to) × (to + p * w ≤ length (now ws)) ⌝ }
-    requires { ⌜ Readable (part ra w (now ws)) × Rows w p n (part b (p * w) (now ws)) × Kept carry p n (now others) ⌝ }
+    requires { ⌜ Readable (part ra w (now ws)) × Rows w p n (part b (p * w) (now ws)) × Beside carry n (now others) ⌝ }
     requires { ⌜ Next carry w p to m (map (entryAlgebra labelCount carry .united (entryAt w ra va (now ws))) (entriesAt carry w p b n (now others) (now ws))) (now ws) (now index) (now vals) ⌝ }
     ensures { λ r. ⌜ Steps carry w p to m (map (entryAlgebra labelCount carry .united (entryAt w ra va (now (ws .entry)))) (entriesAt carry w p b n (now (others .entry)) (now (ws .entry)))) r (now (ws .entry)) (now (index .entry)) (now (vals .entry)) (now (ws .exit)) (now (index .exit)) (now (vals .exit)) ⌝ }
 {
@@ -70,7 +70,7 @@ pub fn unite_with_all(
     let mut j = 0;
     while j < n {
         let rb = b + j * w;
-        let vb = entries::value_at(others, carry, p, n, j);
+        let vb = entries::value_at(others, carry, n, j);
         let v = entries::together(carry, va, vb);
         r = unite_entry(ws, row, index, vals, carry, w, p, ra, rb, to, r, v);
         if p + 1 < r {
@@ -101,7 +101,7 @@ pub fn unite_all(
 ) -> usize
     requires { ⌜ (2 ≤ w) × (w ≤ 4096) × (p ≤ 1024) × (length (now row) ≡ w) ⌝ }
     requires { ⌜ (a + p * w ≤ to) × (b + p * w ≤ to) × (to + p * w ≤ length (now ws)) ⌝ }
-    requires { ⌜ Rows w p na (part a (p * w) (now ws)) × Rows w p nb (part b (p * w) (now ws)) × Kept carry p na (now left) × Kept carry p nb (now right) ⌝ }
+    requires { ⌜ Rows w p na (part a (p * w) (now ws)) × Rows w p nb (part b (p * w) (now ws)) × Beside carry na (now left) × Beside carry nb (now right) ⌝ }
     requires { ⌜ Next carry w p to 0 (products (entryAlgebra labelCount carry .united) (entriesAt carry w p a na (now left) (now ws)) (entriesAt carry w p b nb (now right) (now ws))) (now ws) (now index) (now vals) ⌝ }
     ensures { λ r. ⌜ Steps carry w p to 0 (products (entryAlgebra labelCount carry .united) (entriesAt carry w p a na (now (left .entry)) (now (ws .entry))) (entriesAt carry w p b nb (now (right .entry)) (now (ws .entry)))) r (now (ws .entry)) (now (index .entry)) (now (vals .entry)) (now (ws .exit)) (now (index .exit)) (now (vals .exit)) ⌝ }
 {
@@ -109,7 +109,7 @@ pub fn unite_all(
     let mut i = 0;
     while i < na {
         let ra = a + i * w;
-        let va = entries::value_at(left, carry, p, na, i);
+        let va = entries::value_at(left, carry, na, i);
         r = unite_with_all(
             ws,
             row,
@@ -153,7 +153,7 @@ pub fn unite_tables(
 ) -> usize
     requires { ⌜ (2 ≤ w) × (w ≤ 4096) × (p ≤ 1024) × (length (now row) ≡ w) ⌝ }
     requires { ⌜ (a + p * w ≤ b) × (b + p * w ≤ to) × (to + p * w ≤ length (now ws)) ⌝ }
-    requires { ⌜ Rows w p na (part a (p * w) (now ws)) × Rows w p nb (part b (p * w) (now ws)) × Kept carry p na (now left) × Kept carry p nb (now right) ⌝ }
+    requires { ⌜ Rows w p na (part a (p * w) (now ws)) × Rows w p nb (part b (p * w) (now ws)) × Beside carry na (now left) × Beside carry nb (now right) ⌝ }
     requires { ⌜ (part to (p * w) (now ws) ≡ zeros (p * w)) × (p ≤ length (now index)) × Kept carry p 0 (now vals) ⌝ }
     ensures { λ r. ⌜ Finished carry w p a (products (entryAlgebra labelCount carry .united) (entriesAt carry w p a na (now (left .entry)) (now (ws .entry))) (entriesAt carry w p b nb (now (right .entry)) (now (ws .entry)))) r (now (ws .entry)) (put b (p * w) (now (ws .entry)) (zeros (p * w))) (now (ws .exit)) (now (vals .exit)) ⌝ }
 {

@@ -6,14 +6,15 @@ use Prim.Native.Nat.{ℕ}
 use lib.Dec.{eqb}
 use borrow.Author.Tests.{eq-eqb}
 use Rattle.lists.specs.Lists.{some, products}
+use Rattle.lists.specs.Sorted.{canon}
 use Rattle.lists.proofs.Members.{some-append, not-listed, products-map, products-append}
 use Rattle.semantics.specs.Expressions.{Expr, atom, rule, union, relabel, connect, Operations, fold}
 use Rattle.semantics.specs.Programs.{numbers}
 use Rattle.semantics.specs.AnswerSets.{Interpretation, Assumptions, allObeying, ofList}
 use Rattle.semantics.proofs.Interpretations.{Agree, Apart, Distinct, obeying-in}
-use Rattle.tables.specs.Algebras.{Algebra, entries, entry, leaf}
+use Rattle.tables.specs.Algebras.{Algebra, entries, entry, leaf, table}
 use Rattle.tables.proofs.Entries.{entry-agree}
-use Rattle.tables.proofs.Morphisms.{Morphism}
+use Rattle.tables.proofs.Morphisms.{Morphism, map-canon, table-map}
 use Rattle.values.specs.Values.{Values, Valued, valued, valueOf}
 use Rattle.values.proofs.Semirings.{Semiring}
 
@@ -34,6 +35,13 @@ item-morphism A R keeps = record {
   order = λ x y. refl;
   merge = λ x y. sym (keeps (x .item) (y .item));
 }
+
+module _ {X W : Type 0} (A : Algebra X) (R : Values W) (keeps : (x y : X) → A .merge x y ≡ y) where
+  pub items-canon : (xs : List (Valued X W)) → items (canon (valued A R .order) (valued A R .merge) xs) ≡ canon (A .order) (A .merge) (items xs)
+  items-canon xs = map-canon (item-morphism A R keeps) xs
+
+  pub items-table : (o : Assumptions) (e : Expr) → items (table (valued A R) o e) ≡ table A o e
+  items-table o e = table-map (item-morphism A R keeps) o e
 
 -- ---- the entry of an interpretation has the interpretation's value
 

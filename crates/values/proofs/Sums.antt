@@ -17,10 +17,9 @@ use Rattle.semantics.specs.AnswerSets.{Assumptions, allObeying, ofList}
 use Rattle.semantics.proofs.Interpretations.{Distinct}
 use Rattle.tables.specs.Algebras.{Algebra, entry, leaf, tables, table}
 use Rattle.tables.proofs.Entries.{table-rising}
-use Rattle.tables.proofs.Morphisms.{table-map}
 use Rattle.values.specs.Values.{Values, Valued, valued, Total, none, worth, add, multiply, sumBy, sumOver}
 use Rattle.values.proofs.Semirings.{Semiring, add-assoc, add-turn, multiply-together, multiply-either, multiply-add, multiply-unit, none-add, add-none, multiply-none}
-use Rattle.values.proofs.Items.{items, item-morphism, entry-valued, lists, lists-entries}
+use Rattle.values.proofs.Items.{items, items-table, entry-valued, lists, lists-entries}
 
 module _ {X W : Type 0} (A : Algebra X) (O : Lawful (A .order) (A .merge)) (R : Values W) (L : Semiring R) where
   abbrev Entry : Type 0
@@ -163,4 +162,4 @@ module _ {X W : Type 0} (A : Algebra X) (O : Lawful (A .order) (A .merge)) (R : 
   -- THE VALUE at an entry is the sum over the interpretations that give it
   pub value-at : (o : Assumptions) (e : Expr) → Distinct e → (x : Entry) → List·Memᴰ x (table A′ o e) → worth (x .value) ≡ sumOver R A (at (x .item)) e (allObeying o (numbers e))
   value-at o e d x m =
-      sym (own (table A′ o e) (rw (table-map (item-morphism A R (O .keeps)) o e) (table-rising A O o e)) m) ∙ table-sum o e d (at (x .item))
+      sym (own (table A′ o e) (rw (items-table A R (O .keeps) o e) (table-rising A O o e)) m) ∙ table-sum o e d (at (x .item))

@@ -94,7 +94,7 @@ add-ra c = omega (arith, row-below c, start c .pre .1 .0 .2)
 value-at-requires : tie.Need-value-at-requires Inv-loop μ-loop
 value-at-requires c κs =
     let s = start c in
-    (s .pre .1 .1 .0 .2, (c .loop-test .taken, s .pre .1 .1 .0 .0 .room))
+    (s .pre .1 .1 .0 .2, c .loop-test .taken)
 
 unite-with-all-requires : tie.Need-unite-with-all-requires Inv-loop μ-loop
 unite-with-all-requires c κs =

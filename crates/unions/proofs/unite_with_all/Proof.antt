@@ -82,7 +82,7 @@ add-rb c = omega (arith, row-below c, start c .pre .1 .0 .2)
 value-at-requires : tie.Need-value-at-requires Inv-loop μ-loop
 value-at-requires c κs =
     let s = start c in
-    (s .pre .1 .1 .0 .2, (c .loop-test .taken, s .pre .1 .1 .0 .1 .room))
+    (s .pre .1 .1 .0 .2, c .loop-test .taken)
 
 together-requires : tie.Need-together-requires Inv-loop μ-loop
 together-requires c κs = tt

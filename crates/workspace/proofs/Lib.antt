@@ -1,0 +1,4 @@
+pub mod Areas
+pub mod Values
+pub mod Faults
+pub mod Acting
