@@ -9,7 +9,7 @@ use Rattle.tables.specs.Definitions.{Pair}
 use Rattle.rows.specs.Parts.{part, put, zeros}
 use Rattle.rows.specs.Rows.{tableOf}
 use Rattle.rows.proofs.Parts.{put-at, part-at, part-low, zeros-long, zeros-append}
-use Rattle.rows.proofs.Tables.{length-table}
+use Rattle.rows.proofs.Tables.{row-within, length-table}
 use Rattle.workspace.specs.Workspace.{stackWords, workspaceOf, Sound}
 
 -- one area more
@@ -22,9 +22,6 @@ module _ (w p : ℕ) where
 
   mul-split : (m n : ℕ) → (m + n) * k ≡ m * k + n * k
   mul-split m n = omega arith
-
-  pub mul-up : (m n : ℕ) → m ≤ n → m * k ≤ n * k
-  mul-up m n l = let e : m * k + (n - m) * k ≡ n * k = sym (mul-split m (n - m)) ∙ ap (λ (j : ℕ). j * k) (let z : m + (n - m) ≡ n = omega arith in z) in omega arith
 
   pub table-long : (t : List Pair) → Sound w p t → length (tableOf w p t) ≡ k
   table-long t s = length-table w p t (s .fit) (s .few)
@@ -96,7 +93,7 @@ module _ (w p : ℕ) where
     area-second ts s a b sa sb l =
         ap (part (length ts * k) k) (sym (pushed (a ∷ ts) (sa, s) l b))
         ∙ part-low (length ts * k) k (suc (length ts) * k) k (workspaceOf d w p (a ∷ ts) beyond) (tableOf w p b) (omega (arith, area-more (length ts) k))
-        (omega (arith, workspace-long (a ∷ ts) (sa, s) (omega arith), mul-up (suc (length ts)) d (omega arith)))
+        (omega (arith, workspace-long (a ∷ ts) (sa, s) (omega arith), row-within (suc (length ts)) d k l))
         ∙ area-newest ts s (omega arith) a sa
 
     -- the last area is scratch

@@ -1,0 +1,134 @@
+-- What a workspace that holds a stack of tables gives to a command: room, scratch, and its operands. Assumes nothing.
+use mathlib.Core.Path.{_≡_, refl, sym, ap, _∙_, subst}
+use mathlib.Core.List.{List, [], _∷_, map}
+use Prim.Native.Nat.{ℕ, suc, _+_, _-_, _*_, _≤_, _<_}
+use native.Mathlib.Omega.{arith}
+use lib.ListN.{length, take, drop, length-drop, length-map}
+use lib.Seq.{take-all}
+use Rattle.lists.specs.Lists.{All}
+use Rattle.tables.specs.Definitions.{Pair}
+use Rattle.decisions.specs.Decisions.{newest}
+use Rattle.rows.specs.Parts.{part, zeros}
+use Rattle.rows.specs.Rows.{Rows, tableOf}
+use Rattle.entries.specs.declared.Carry.{Carry}
+use Rattle.entries.specs.declared.Carry.the-variants.{Nothing, First}
+use Rattle.entries.specs.Carries.{Entry, valuesIn, Beside}
+use Rattle.making.specs.Making.{entriesAt}
+use Rattle.workspace.specs.Workspace.{workspaceOf, Sound, pairsOf, valuesOf, valuesFrom}
+use Rattle.workspace.proofs.Areas.{workspace-long, area-newest, area-second, area-free, scratch-free}
+use Rattle.rows.proofs.Tables.{row-within}
+use Rattle.workspace.proofs.Acting.{sound-pairs, operand-rows, operand-entries}
+use Rattle.operations.specs.Operations.{Loaded}
+
+-- ---- room for values
+
+module _ (carry : Carry) (d p i : ℕ) (vals : List ℕ) (l : i + 1 < d) (h : Beside carry ((d - 1) * p) vals) where
+  pub beside-room : Beside carry (i * p + p) vals
+  beside-room = room carry h
+    where
+      room : (c : Carry) → Beside c ((d - 1) * p) vals → Beside c (i * p + p) vals
+      room Nothing h = tt
+      room First h = omega (arith, row-within i (d - 1) p (omega arith))
+
+  pub beside-at : (n : ℕ) → n ≤ p → Beside carry n (drop (valuesFrom carry p i) vals)
+  beside-at n g = there carry beside-room
+    where
+      there : (c : Carry) → Beside c (i * p + p) vals → Beside c n (drop (valuesFrom c p i) vals)
+      there Nothing h = tt
+      there First h = simp length-drop (omega arith)
+
+pub from-first : (carry : Carry) (p i : ℕ) → carry ≡ First → i * p ≡ valuesFrom carry p i
+from-first Nothing p i e = let q : _≡_ {A = ℕ} 0 1 = cc in absurd (omega arith)
+from-first First p i e = refl
+
+-- where values begin, there is a word or the end
+pub from-within : (carry : Carry) (p i : ℕ) (vals : List ℕ) → Beside carry (i * p + p) vals → valuesFrom carry p i ≤ length vals
+from-within Nothing p i vals h = omega arith
+from-within First p i vals h = omega arith
+
+-- the words from o on
+pub rest-is : (o : ℕ) (xs : List ℕ) → take (length xs - o) (drop o xs) ≡ drop o xs
+rest-is o xs = take-all (length xs - o) (drop o xs) (simp length-drop (omega arith))
+
+-- ---- the words
+
+module _ {carry : Carry} {d w p t n m : ℕ} {ts : List (List Entry)} {beyond ws vals : List ℕ} (h : Loaded carry d w p t n m ts beyond ws vals) where
+  abbrev k : ℕ
+  k = p * w
+
+  stack-sound : All (Sound w p) (map pairsOf ts)
+  stack-sound = sound-pairs w p ts (h .holds .sound)
+
+  deep : length (map pairsOf ts) ≡ t
+  deep = length-map ts pairsOf ∙ h .tables
+
+  pub below : t < d
+  below = omega (arith, h .holds .free, h .tables)
+
+  pub within : d * k ≤ length ws
+  within = let e = ap length (h .holds .words) ∙ workspace-long w p d beyond (map pairsOf ts) stack-sound (omega (arith, deep, below)) in omega arith
+
+  -- areas below the last one
+  pub area-within : (i : ℕ) → i < d → i * k + k ≤ d * k
+  area-within i l = row-within i d k l
+
+  -- the area behind area i begins where it ends
+  pub area-behind : (i j : ℕ) → i + 1 ≡ j → i * k + k ≡ j * k
+  area-behind i j e = let z : i * k + k ≡ (i + 1) * k = omega arith in z ∙ ap (λ (l : ℕ). l * k) e
+
+  pub scratch-zero : part ((d - 1) * k) k ws ≡ zeros k
+  scratch-zero = ap (part ((d - 1) * k) k) (h .holds .words) ∙ scratch-free w p d beyond (d - 1) (map pairsOf ts) stack-sound (omega (arith, below)) (omega (arith, deep, below))
+
+  pub free-zero : part (t * k) k ws ≡ zeros k
+  free-zero =
+      ap (λ (j : ℕ). part (j * k) k ws) (sym deep) ∙ ap (part (length (map pairsOf ts) * k) k) (h .holds .words) ∙ area-free w p d beyond (map pairsOf ts) stack-sound (omega (arith, deep, below))
+
+-- ---- operands
+
+-- table i of the workspace is x
+pub record Stands (carry : Carry) (w p i : ℕ) (x : List Entry) (ws vals : List ℕ) : Type 0 where
+  pub area : part (i * (p * w)) (p * w) ws ≡ tableOf w p (pairsOf x)
+  pub sound : Sound w p (pairsOf x)
+  pub values : valuesIn carry (length x) (drop (valuesFrom carry p i) vals) ≡ valuesOf x
+
+module _ {carry : Carry} {d w p t n m : ℕ} {beyond ws vals : List ℕ} where
+  pub newer-stands : (ts : List (List Entry)) → Loaded carry d w p t n m ts beyond ws vals → 1 ≤ t → Stands carry w p (t - 1) (newest ts) ws vals
+  newer-stands [] h one = absurd (omega (arith, h .tables))
+  newer-stands (x ∷ us) h one =
+      let i : length us ≡ t - 1 = omega (arith, h .tables) in
+      let l = length-map us pairsOf in
+      subst (λ (j : ℕ). Stands carry w p j x ws vals) i (record {
+        area =
+            ap (λ (j : ℕ). part (j * (p * w)) (p * w) ws) (sym l) ∙ ap (part (length (map pairsOf us) * (p * w)) (p * w)) (h .holds .words)
+            ∙ area-newest w p d beyond (map pairsOf us) (sound-pairs w p us (h .holds .sound .1)) (omega (arith, l, h .holds .free)) (pairsOf x) (h .holds .sound .0);
+        sound = h .holds .sound .0;
+        values = h .holds .values .0;
+      })
+
+  pub older-stands : (ts : List (List Entry)) → Loaded carry d w p t n m ts beyond ws vals → 2 ≤ t → Stands carry w p (t - 2) (newest (drop 1 ts)) ws vals
+  older-stands [] h two = absurd (omega (arith, h .tables))
+  older-stands (b ∷ []) h two = absurd (omega (arith, h .tables))
+  older-stands (b ∷ a ∷ us) h two =
+      let i : length us ≡ t - 2 = omega (arith, h .tables) in
+      let l = length-map us pairsOf in
+      subst (λ (j : ℕ). Stands carry w p j a ws vals) i (record {
+        area =
+            ap (λ (j : ℕ). part (j * (p * w)) (p * w) ws) (sym l) ∙ ap (part (length (map pairsOf us) * (p * w)) (p * w)) (h .holds .words)
+            ∙ area-second w p d beyond (map pairsOf us) (sound-pairs w p us (h .holds .sound .1 .1)) (pairsOf a) (pairsOf b) (h .holds .sound .1 .0) (h .holds .sound .0) (omega (arith, l, h .holds .free));
+        sound = h .holds .sound .1 .0;
+        values = h .holds .values .1 .0;
+      })
+
+-- its rows and its entries, by where they begin
+module _ {carry : Carry} {w p i : ℕ} {x : List Entry} {ws vals : List ℕ} (h : Stands carry w p i x ws vals) (at n : ℕ) (e : at ≡ i * (p * w)) (many : length x ≡ n) where
+  there : part at (p * w) ws ≡ tableOf w p (pairsOf x)
+  there = ap (λ (j : ℕ). part j (p * w) ws) e ∙ h .area
+
+  pub stands-rows : Rows w p n (part at (p * w) ws)
+  stands-rows = operand-rows carry w p at n x ws vals (h .sound) there many
+
+  pub stands-few : n ≤ p
+  stands-few = omega (arith, h .sound .few, length-map x (λ (y : Entry). y .item), many)
+
+  pub stands-entries : (o : ℕ) → o ≡ valuesFrom carry p i → entriesAt carry w p at n (drop o vals) ws ≡ x
+  stands-entries o eo = operand-entries carry w p at n x ws (drop o vals) (h .sound) there many (rw (eo, sym many) (h .values))
