@@ -11,16 +11,17 @@ use Rattle.lists.proofs.Runs.{length-run}
 use Rattle.lists.proofs.Members.{not-true-false}
 use Rattle.expression.specs.Limits.{atomLimit}
 use Rattle.expression.specs.Reading.{reading}
-use Rattle.expression.specs.Checks.{Request}
+use Rattle.expression.specs.Checks.{Request, countsOf}
 use Rattle.semantics.specs.Expressions.{Expr}
 use Rattle.semantics.specs.Programs.{numbers}
-use Rattle.semantics.specs.AnswerSets.{Interpretation, Obeys, Model, AnswerSet, ofMask, maskOf}
+use Rattle.semantics.specs.AnswerSets.{ofMask, maskOf}
 use Rattle.semantics.proofs.Interpretations.{Distinct, obeys-agree}
 use Rattle.semantics.proofs.Stacks.{Fits}
 use Rattle.semantics.proofs.Masks.{mask-agrees, mask-lt}
 use Rattle.tables.specs.Definitions.{triples, pairs, plainAccepts, groundedAccepts}
 use Rattle.tables.proofs.Answers.{FoundAnswerSet, FoundModel, answerSet-agree, grounded-found, found-grounded, plain-found, found-plain}
 use Rattle.decisions.specs.Decisions.{Verdict, affirmed, denied, assumed, pairsFault, plainFault, answer, grounded, plain, expressionOf, Shows}
+use Rattle.decisions.specs.Outcomes.{NoAnswerSet, NoModel}
 use Rattle.decisions.proofs.Walks.{Readable, readable-tree, Decided, Settled, decided}
 
 -- ---- the tree of a request that is decided
@@ -30,11 +31,12 @@ pub record Tree (K : ℕ) (s : List ℕ) : Type 0 where
   pub distinct : Distinct (expressionOf K s)
   pub count : ℕ
   pub numbered : numbers (expressionOf K s) ≡ run 0 count
+  pub counted : countsOf (reading K s) .atoms ≡ count
   pub few : count ≤ atomLimit
 
 pub tree-of : (K : ℕ) (a : Request) → Readable a (reading K (a .bytes)) → Tree K (a .bytes)
 unfolding expressionOf
-tree-of K a r = let t = readable-tree K a (reading K (a .bytes)) refl r in record { fits = t .fits; distinct = t .distinct; count = t .count; numbered = t .numbered; few = t .few }
+tree-of K a r = let t = readable-tree K a (reading K (a .bytes)) refl r in record { fits = t .fits; distinct = t .distinct; count = t .count; numbered = t .numbered; counted = t .counted; few = t .few }
 
 answer-yes : (b : Bool) → affirmed ≡ answer b → b ≡ true
 unfolding answer
@@ -57,13 +59,6 @@ module _ (K : ℕ) (a : Request) where
   abbrev e : Expr
   e = expressionOf K (a .bytes)
 
-  -- an interpretation that obeys, an answer set or a model
-  abbrev pub NoAnswerSet : Type 0
-  NoAnswerSet = (p : Interpretation) → Obeys (assumed a) (numbers e) p → AnswerSet e p → ⊥
-
-  abbrev pub NoModel : Type 0
-  NoModel = (p : Interpretation) → Obeys (assumed a) (numbers e) p → Model e p → ⊥
-
   -- ---- grounded
 
   module _ (settled : Settled (grounded K a)) where
@@ -74,7 +69,7 @@ module _ (K : ℕ) (a : Request) where
     pub tree : Tree K (a .bytes)
     tree = tree-of K a (ground .readable)
 
-    pub grounded-denied : (grounded K a ≡ denied) ↔ NoAnswerSet
+    pub grounded-denied : (grounded K a ≡ denied) ↔ NoAnswerSet K a
     grounded-denied = (
       λ h p o s. true≢false (sym (found-grounded K e (tree .fits) (tree .distinct) (assumed a) p o s) ∙ answer-no _ (sym h ∙ ground .says)),
       λ h. no-if (ground .says) (not-true-false _ (λ k.
@@ -109,7 +104,7 @@ module _ (K : ℕ) (a : Request) where
     plain-tree : Tree K (a .bytes)
     plain-tree = tree-of K a (open-plain .readable)
 
-    pub plain-denied : (plain K a ≡ denied) ↔ NoModel
+    pub plain-denied : (plain K a ≡ denied) ↔ NoModel K a
     plain-denied = (
       λ h p o s. true≢false (sym (found-plain K e (plain-tree .fits) (plain-tree .distinct) (assumed a) p o s) ∙ answer-no _ (sym h ∙ open-plain .says)),
       λ h. no-if (open-plain .says) (not-true-false _ (λ k.

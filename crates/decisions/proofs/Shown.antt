@@ -20,10 +20,11 @@ use Rattle.tables.specs.Algebras.{table}
 use Rattle.tables.specs.Definitions.{pairs, accepting, groundedAccepts}
 use Rattle.tables.proofs.Entries.{entry-agree}
 use Rattle.tables.proofs.Answers.{pairs-lawful, accepting-is, accepting-of, answerSet-agree, grounded-found, found-grounded}
-use Rattle.values.specs.Values.{valued, valueOf, Total, worth, sumBy, sumOver}
+use Rattle.values.specs.Values.{valued, valueOf, Total, none, worth, sumBy, sumOver}
 use Rattle.values.specs.First.{firstWeight, firsts, passing, shownBy, NotBefore}
 use Rattle.values.proofs.First.{Least, least-is, least-least, table-least, shown-agrees, value-first}
 use Rattle.decisions.specs.Decisions.{affirmed, assumed, grounded, expressionOf, Shows}
+use Rattle.decisions.specs.Outcomes.{NoAnswerSet}
 use Rattle.decisions.proofs.Walks.{Settled}
 use Rattle.decisions.proofs.Demands.{Tree, grounded-affirmed}
 
@@ -118,7 +119,7 @@ module _ (K : ℕ) (a : Request) (t : Tree K (a .bytes)) where
   all = allObeying (assumed a) (numbers e)
 
   -- the least value over the answer sets that obey
-  abbrev carried : Total ℕ
+  abbrev pub carried : Total ℕ
   carried = sumBy firsts (passing (accepting K)) (table (valued (pairs K) firsts) (assumed a) e)
 
   carried-is : carried ≡ sumOver firsts (pairs K) (passing (accepting K)) e all
@@ -161,3 +162,7 @@ module _ (K : ℕ) (a : Request) (t : Tree K (a .bytes)) where
   found-least h =
       let s = grounded-affirmed K a (subst Settled (sym h) tt) .0 h in
       let r = least-of (ofMask (s .0)) (s .1 .obeys) (s .1 .answerSet) in (r .0, r .1)
+
+  -- where no value is least, there is none
+  pub none-least : carried ≡ none → NoAnswerSet K a
+  none-least h q o s = let r = least-of q o s in let z : _≡_ {A = ℕ} 0 1 = cc (h, r .1) in omega arith

@@ -97,6 +97,18 @@ readable-tree K a (whole cs z) q h =
     let n : z .atoms ≡ len = omega (arith, s .atoms) in
     record { only = o; fits = f .0; distinct = d; count = len; numbered = e ∙ ap (λ x. run x len) b; counted = n; few = omega (arith, s .few) }
 
+pub check-readable : (K : ℕ) (a : Request) {z : Counts} → check K a ≡ Passed z → Readable a (reading K (a .bytes))
+unfolding check
+check-readable K a {z} h = checks-passed a (reading K (a .bytes)) (countsOf (reading K (a .bytes))) z h
+
+-- so a walk that no limit stops leaves that tree's table
+pub walked-one : {X : Type 0} (A : Algebra X) (o : Assumptions) (f : List X → ℕ) (K : ℕ) (a : Request) (us : List (List X)) → Readable a (reading K (a .bytes))
+    → walk (tables A o) f 0 (commandsIn (reading K (a .bytes))) [] ≡ walked us → us ≡ table A o (expressionOf K (a .bytes)) ∷ []
+unfolding expressionOf
+walked-one A o f K a us r h =
+    walk-all (tables A o) f 0 (commandsIn (reading K (a .bytes))) [] us h ∙ tables-after A o (commandsIn (reading K (a .bytes)))
+    ∙ ap (map (table A o)) (readable-tree K a (reading K (a .bytes)) refl r .only)
+
 -- ---- a decision without refusal
 
 pub record Decided {X : Type 0} (A : Algebra X) (y : List X → Bool) (K : ℕ) (a : Request) (v : Verdict) : Type 0 where
@@ -109,7 +121,7 @@ Settled denied = Unit {0}
 Settled (refused n at) = ⊥
 
 pub decided : {X : Type 0} (A : Algebra X) (f : List X → ℕ) (y : List X → Bool) (K : ℕ) (a : Request) → Settled (decide A f y K a) → Decided A y K a (decide A f y K a)
-unfolding decide expressionOf
+unfolding decide
 decided {X} A f y K a h = step (check K a) refl h
   where
     W : Walked X
@@ -117,16 +129,9 @@ decided {X} A f y K a h = step (check K a) refl h
 
     ends : Readable a (reading K (a .bytes)) → (w : Walked X) → W ≡ w → Settled (conclude y w) → Decided A y K a (conclude y w)
     ends r (stopped n at) q k = unfold conclude in (absurd k)
-    ends r (walked ts) q k = record {
-      readable = r;
-      says = unfold conclude in (ap (λ us. answer (y (newest us))) (walk-all (tables A (assumed a)) f 0 (commandsIn (reading K (a .bytes))) [] ts q
-          ∙ tables-after A (assumed a) (commandsIn (reading K (a .bytes))) ∙ ap (map (table A (assumed a))) (readable-tree K a (reading K (a .bytes)) refl r .only)));
-    }
+    ends r (walked us) q k = record { readable = r; says = unfold conclude in (ap (λ vs. answer (y (newest vs))) (walked-one A (assumed a) f K a us r q)) }
 
     step : (c : Checked) → check K a ≡ c → Settled (elim c as (λ x. Verdict) [ Passed z ↦ conclude y W | Refused n at ↦ refused n at ])
         → Decided A y K a (elim c as (λ x. Verdict) [ Passed z ↦ conclude y W | Refused n at ↦ refused n at ])
-    step (Passed z) e k = ends (passed z e) W refl k
-      where
-        passed : (z : Counts) → check K a ≡ Passed z → Readable a (reading K (a .bytes))
-        passed z e = checks-passed a (reading K (a .bytes)) (countsOf (reading K (a .bytes))) z (unfold check in e)
+    step (Passed z) e k = ends (check-readable K a e) W refl k
     step (Refused n at) e k = absurd k

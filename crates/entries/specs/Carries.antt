@@ -1,20 +1,20 @@
 -- What is carried beside the rows of a table in 64-bit words: nothing, or the value of the first interpretation. Assumes nothing.
 use mathlib.Core.List.{List, [], _++_}
 use mathlib.Core.Path.{_≡_}
-use Prim.Native.Nat.{ℕ, _+_, _-_, _%_, _^_, _≤_, min}
+use Prim.Native.Nat.{ℕ, _-_, _≤_}
 use lib.ListN.{take, length}
 use Rattle.tables.specs.Algebras.{Algebra}
 use Rattle.tables.specs.Definitions.{Pair, pairs}
 use Rattle.values.specs.Values.{Values, Valued, valued}
-use Rattle.values.specs.First.{firstWeight}
+use Rattle.values.specs.First.{firstWords}
 use Rattle.rows.specs.Parts.{zeros}
 use Rattle.entries.specs.declared.Carry.{Carry}
 use Rattle.entries.specs.declared.Carry.the-variants.{Nothing, First}
 
--- the values as 64-bit words keep them: sums wrap
+-- the values as 64-bit words keep them
 abbrev pub carriedBy : Carry → Values ℕ
 carriedBy Nothing = record { unit = 0; either = λ a b. 0; together = λ a b. 0; present = λ c. 0; absent = λ c. 0 }
-carriedBy First = record { unit = 0; either = min; together = λ a b. (a + b) % 2 ^ 64; present = firstWeight; absent = λ c. 0 }
+carriedBy First = firstWords
 
 -- a value that the words keep
 abbrev pub Keeps : Carry → ℕ → Type 0

@@ -2,3 +2,4 @@ pub mod Entries
 pub mod Subsets
 pub mod Marks
 pub mod Answers
+pub mod Morphisms

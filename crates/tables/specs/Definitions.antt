@@ -53,7 +53,7 @@ module _ (K : ℕ) where
     united = unitePairs;
     relabelled = λ i j x. mapPair (relabelTriple K i j (ownTriple x)) (relabelTriple K i j) x;
     connected = λ k i j x. mapPair (connectTriple K k i j (ownTriple x) (ownTriple x)) (connectTriple K k i j (ownTriple x)) x;
-    order = compareLists;
+    order = compareLists;  -- Q, then the subsets
     merge = second;
   }
 

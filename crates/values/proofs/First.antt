@@ -21,7 +21,7 @@ use Rattle.semantics.specs.AnswerSets.{Interpretation, Assumptions, ofMask, all
 use Rattle.semantics.proofs.Interpretations.{Agree, Distinct}
 use Rattle.semantics.proofs.Masks.{mask-agrees}
 use Rattle.tables.specs.Algebras.{Algebra, entry, table}
-use Rattle.values.specs.Values.{valued, valueOf, Total, none, worth, add, multiply, sumBy, sumOver}
+use Rattle.values.specs.Values.{Valued, valued, valueOf, Total, none, worth, add, multiply, sumBy, sumOver}
 use Rattle.values.specs.First.{leastBy, firstWeight, firsts, passing, shownBy, NotBefore}
 use Rattle.values.proofs.Semirings.{Semiring}
 use Rattle.values.proofs.Sums.{table-sum}
@@ -38,7 +38,17 @@ least-semiring w = record {
   together-unit = add-zero;
 }
 
--- ---- the least over interpretations that pass a test
+-- ---- the least over entries and over interpretations that pass a test
+
+passing-part : (w : ℕ → ℕ) (v : ℕ) (b : Bool) → multiply (leastBy w) (worth v) (cond b (worth 0) none) ≡ cond b (worth v) none
+unfolding multiply leastBy
+passing-part w v true = ap worth (add-zero v)
+passing-part w v false = refl
+
+pub sum-passing : {X : Type 0} (w : ℕ → ℕ) (f : X → Bool) (x : Valued X ℕ) (t : List (Valued X ℕ))
+    → sumBy (leastBy w) (passing f) (x ∷ t) ≡ add (leastBy w) (cond (f (x .item)) (worth (x .value)) none) (sumBy (leastBy w) (passing f) t)
+unfolding sumBy passing
+sum-passing w f x t = ap (λ z. add (leastBy w) z (sumBy (leastBy w) (passing f) t)) (passing-part w (x .value) (f (x .item)))
 
 module _ {X : Type 0} (A : Algebra X) (w : ℕ → ℕ) (f : X → Bool) (e : Expr) where
   abbrev value : List ℕ → ℕ
@@ -56,11 +66,7 @@ module _ {X : Type 0} (A : Algebra X) (w : ℕ → ℕ) (f : X → Bool) (e : Ex
 
   least-cons : (l : List ℕ) (ls : List (List ℕ)) → least (l ∷ ls) ≡ add (leastBy w) (one l) (least ls)
   unfolding sumOver passing one
-  least-cons l ls = ap (λ t. add (leastBy w) t (least ls)) (step (passes l))
-    where
-      step : (b : Bool) → multiply (leastBy w) (worth (value l)) (cond b (worth 0) none) ≡ cond b (worth (value l)) none
-      step true = unfold multiply leastBy in (ap worth (add-zero (value l)))
-      step false = unfold multiply in refl
+  least-cons l ls = ap (λ t. add (leastBy w) t (least ls)) (passing-part w (value l) (passes l))
 
   pub record Least (ls : List (List ℕ)) (v : ℕ) : Type 0 where
     pub by : List ℕ

@@ -5,92 +5,55 @@ use mathlib.Core.List.{List, [], _∷_, _++_, map, map-append, append-nil, List�
 use Prim.Native.Nat.{ℕ}
 use lib.Dec.{eqb}
 use borrow.Author.Tests.{eq-eqb}
-use Rattle.lists.specs.declared.Order.{Order}
-use Rattle.lists.specs.declared.Order.the-variants.{Less, Same, More}
 use Rattle.lists.specs.Lists.{some, products}
-use Rattle.lists.specs.Sorted.{byOrder, insert, insertAll, canon}
+use Rattle.lists.specs.Sorted.{canon}
 use Rattle.lists.proofs.Members.{some-append, not-listed, products-map, products-append}
 use Rattle.semantics.specs.Expressions.{Expr, atom, rule, union, relabel, connect, Operations, fold}
 use Rattle.semantics.specs.Programs.{numbers}
 use Rattle.semantics.specs.AnswerSets.{Interpretation, Assumptions, allObeying, ofList}
 use Rattle.semantics.proofs.Interpretations.{Agree, Apart, Distinct, obeying-in}
-use Rattle.tables.specs.Algebras.{Algebra, entries, entry, leaf, tables, table}
+use Rattle.tables.specs.Algebras.{Algebra, entries, entry, leaf, table}
 use Rattle.tables.proofs.Entries.{entry-agree}
+use Rattle.tables.proofs.Morphisms.{Morphism, map-canon, table-map}
 use Rattle.values.specs.Values.{Values, Valued, valued, valueOf}
 use Rattle.values.proofs.Semirings.{Semiring}
 
 -- ---- the entries of a table with values are the table
 
+abbrev pub items : {X W : Type 0} → List (Valued X W) → List X
+items l = map (λ x. x .item) l
+
+pub item-morphism : {X W : Type 0} (A : Algebra X) (R : Values W) → ((x y : X) → A .merge x y ≡ y) → Morphism (valued A R) A (λ x. x .item)
+unfolding valued
+item-morphism A R keeps = record {
+  present = λ c g. refl;
+  absent = λ c g. refl;
+  unmet = λ g. refl;
+  united = λ x y. refl;
+  relabelled = λ i j x. refl;
+  connected = λ k i j x. refl;
+  order = λ x y. refl;
+  merge = λ x y. sym (keeps (x .item) (y .item));
+}
+
 module _ {X W : Type 0} (A : Algebra X) (R : Values W) (keeps : (x y : X) → A .merge x y ≡ y) where
-  abbrev pub items : List (Valued X W) → List X
-  items l = map (λ x. x .item) l
+  pub items-canon : (xs : List (Valued X W)) → items (canon (valued A R .order) (valued A R .merge) xs) ≡ canon (A .order) (A .merge) (items xs)
+  items-canon xs = map-canon (item-morphism A R keeps) xs
 
-  abbrev A′ : Algebra (Valued X W)
-  A′ = valued A R
-
-  items-insert : (x : Valued X W) (l : List (Valued X W)) → items (insert (A′ .order) (A′ .merge) x l) ≡ insert (A .order) (A .merge) (x .item) (items l)
-  unfolding insert valued
-  items-insert x [] = refl
-  items-insert x (y ∷ ys) = step (A .order (x .item) (y .item)) (items-insert x ys)
-    where
-      step : (o : Order) → items (insert (A′ .order) (A′ .merge) x ys) ≡ insert (A .order) (A .merge) (x .item) (items ys)
-          → items (byOrder o (x ∷ y ∷ ys) (A′ .merge x y ∷ ys) (y ∷ insert (A′ .order) (A′ .merge) x ys))
-          ≡ byOrder o (x .item ∷ y .item ∷ items ys) (A .merge (x .item) (y .item) ∷ items ys) (y .item ∷ insert (A .order) (A .merge) (x .item) (items ys))
-      step Less h = refl
-      step Same h = ap {B = List X} (λ z. z ∷ items ys) (sym (keeps (x .item) (y .item)))
-      step More h = ap {B = List X} (λ l. y .item ∷ l) h
-
-  items-insertAll : (xs acc : List (Valued X W)) → items (insertAll (A′ .order) (A′ .merge) xs acc) ≡ insertAll (A .order) (A .merge) (items xs) (items acc)
-  unfolding insertAll
-  items-insertAll [] acc = refl
-  items-insertAll (x ∷ xs) acc = items-insertAll xs (insert (A′ .order) (A′ .merge) x acc) ∙ ap (insertAll (A .order) (A .merge) (items xs)) (items-insert x acc)
-
-  pub items-canon : (xs : List (Valued X W)) → items (canon (A′ .order) (A′ .merge) xs) ≡ canon (A .order) (A .merge) (items xs)
-  unfolding canon
-  items-canon xs = items-insertAll xs []
-
-  items-map : (f : Valued X W → Valued X W) (g : X → X) → ((x : Valued X W) → f x .item ≡ g (x .item)) → (l : List (Valued X W)) → items (map f l) ≡ map g (items l)
-  items-map f g h [] = refl
-  items-map f g h (x ∷ xs) = ap₂ {C = List X} (λ y l. y ∷ l) (h x) (items-map f g h xs)
-
-  items-products : (s t : List (Valued X W)) → items (products (A′ .united) s t) ≡ products (A .united) (items s) (items t)
-  unfolding valued
-  items-products s t = sym (products-map (λ x. x .item) (λ x. x .item) (A .united) (A′ .united) (λ x. x .item) s t (λ x y m n. refl))
-
-  items-leaf : (o : Assumptions) (c g : ℕ) → items (leaf A′ o c g) ≡ leaf A o c g
-  unfolding leaf valued
-  items-leaf o c g = step (o .falses c) (o .trues c)
-    where
-      step : (a b : Bool) → items (cond a [] (A′ .present c g ∷ []) ++ cond b [] (A′ .absent c g ∷ [])) ≡ cond a [] (A .present c g ∷ []) ++ cond b [] (A .absent c g ∷ [])
-      step true true = refl
-      step true false = refl
-      step false true = refl
-      step false false = refl
-
-  pub items-table : (o : Assumptions) (e : Expr) → items (table A′ o e) ≡ table A o e
-  unfolding table tables fold valued
-  items-table o (atom c g) = items-canon (leaf A′ o c g) ∙ ap (canon (A .order) (A .merge)) (items-leaf o c g)
-  items-table o (rule g) = refl
-  items-table o (union e f) =
-      items-canon (products (A′ .united) (table A′ o e) (table A′ o f))
-      ∙ ap (canon (A .order) (A .merge)) (items-products (table A′ o e) (table A′ o f) ∙ ap₂ (products (A .united)) (items-table o e) (items-table o f))
-  items-table o (relabel i j e) =
-      items-canon (map (A′ .relabelled i j) (table A′ o e))
-      ∙ ap (canon (A .order) (A .merge)) (items-map (A′ .relabelled i j) (A .relabelled i j) (λ x. refl) (table A′ o e) ∙ ap (map (A .relabelled i j)) (items-table o e))
-  items-table o (connect k i j e) =
-      items-canon (map (A′ .connected k i j) (table A′ o e))
-      ∙ ap (canon (A .order) (A .merge)) (items-map (A′ .connected k i j) (A .connected k i j) (λ x. refl) (table A′ o e) ∙ ap (map (A .connected k i j)) (items-table o e))
+  pub items-table : (o : Assumptions) (e : Expr) → items (table (valued A R) o e) ≡ table A o e
+  items-table o e = table-map (item-morphism A R keeps) o e
 
 -- ---- the entry of an interpretation has the interpretation's value
 
-module _ {X W : Type 0} (A : Algebra X) (R : Values W) (L : Semiring R) where
-  value-append : (xs ys : List ℕ) (p : Interpretation) → valueOf R (xs ++ ys) p ≡ R .together (valueOf R xs p) (valueOf R ys p)
+module _ {W : Type 0} (R : Values W) (L : Semiring R) where
+  pub value-append : (xs ys : List ℕ) (p : Interpretation) → valueOf R (xs ++ ys) p ≡ R .together (valueOf R xs p) (valueOf R ys p)
   unfolding valueOf
   value-append [] ys p = sym (L .unit-together (valueOf R ys p))
   value-append (x ∷ xs) ys p =
       ap (R .together (cond (p x) (R .present x) (R .absent x))) (value-append xs ys p)
       ∙ sym (L .together-assoc (cond (p x) (R .present x) (R .absent x)) (valueOf R xs p) (valueOf R ys p))
 
+module _ {X W : Type 0} (A : Algebra X) (R : Values W) (L : Semiring R) where
   pub entry-valued : (e : Expr) (p : Interpretation) → entry (valued A R) e p ≡ record { item = entry A e p; value = valueOf R (numbers e) p }
   unfolding entry entries fold valued numbers valueOf
   entry-valued (atom c g) p = step (p c)
@@ -102,7 +65,7 @@ module _ {X W : Type 0} (A : Algebra X) (R : Values W) (L : Semiring R) where
   entry-valued (rule g) p = refl
   entry-valued (union e f) p =
       ap₂ (valued A R .united) (entry-valued e p) (entry-valued f p)
-      ∙ (λ i. record { item = A .united (entry A e p) (entry A f p); value = sym (value-append (numbers e) (numbers f) p) i })
+      ∙ (λ i. record { item = A .united (entry A e p) (entry A f p); value = sym (value-append R L (numbers e) (numbers f) p) i })
   entry-valued (relabel i j e) p = ap (valued A R .relabelled i j) (entry-valued e p)
   entry-valued (connect k i j e) p = ap (valued A R .connected k i j) (entry-valued e p)
 

@@ -2,3 +2,4 @@ pub mod Semirings
 pub mod Items
 pub mod Sums
 pub mod First
+pub mod Words

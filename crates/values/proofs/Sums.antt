@@ -137,12 +137,12 @@ module _ {X W : Type 0} (A : Algebra X) (O : Lawful (A .order) (A .merge)) (R : 
   before : {x y : X} → A .order x y ≡ Less → (A .order x y ≡ Same → ⊥) × (A .order y x ≡ Same → ⊥)
   before {x} {y} h = (λ e. let z : _≡_ {A = ℕ} 0 1 = cc in omega arith, λ e. let z : _≡_ {A = ℕ} 0 1 = cc (O .self x, ap (A .order x) (O .same y x e)) in omega arith)
 
-  others : (x : X) (l : List Entry) → All (λ y. A .order x y ≡ Less) (items A R (O .keeps) l) → sumBy R (at x) l ≡ none
+  others : (x : X) (l : List Entry) → All (λ y. A .order x y ≡ Less) (items l) → sumBy R (at x) l ≡ none
   unfolding sumBy
   others x [] h = refl
   others x (y ∷ l) h = ap₂ (add R) (ap (multiply R (worth (y .value))) (at-other (before (h .0) .0)) ∙ multiply-none R (worth (y .value))) (others x l (h .1)) ∙ none-add R none
 
-  own : {x : Entry} (l : List Entry) → Rising (A .order) (items A R (O .keeps) l) → List·Memᴰ x l → sumBy R (at (x .item)) l ≡ worth (x .value)
+  own : {x : Entry} (l : List Entry) → Rising (A .order) (items l) → List·Memᴰ x l → sumBy R (at (x .item)) l ≡ worth (x .value)
   unfolding sumBy Rising
   own [] r m = absurd (List·Memᴰ·not-nil m)
   own {x} (y ∷ l) r m = step (λ n. own l (r .1) n) (List·Memᴰ·cases-cons m)
@@ -156,7 +156,7 @@ module _ {X W : Type 0} (A : Algebra X) (O : Lawful (A .order) (A .merge)) (R : 
       step : (List·Memᴰ x l → sumBy R (at (x .item)) l ≡ worth (x .value)) → (x ≡ y) ⊎ List·Memᴰ x l → add R (term (at (x .item)) y) (sumBy R (at (x .item)) l) ≡ worth (x .value)
       step f (inl e) = rw e head
       step f (inr n) =
-          let b = all-at (λ z. A .order (y .item) z ≡ Less) (items A R (O .keeps) l) (r .0) (Memᴰ·map (λ z. z .item) n) in
+          let b = all-at (λ z. A .order (y .item) z ≡ Less) (items l) (r .0) (Memᴰ·map (λ z. z .item) n) in
           ap₂ (add R) (ap (multiply R (worth (y .value))) (at-other (before b .1)) ∙ multiply-none R (worth (y .value))) (f n) ∙ none-add R (worth (x .value))
 
   -- THE VALUE at an entry is the sum over the interpretations that give it

@@ -2,7 +2,7 @@
 use mathlib.Core.Path.{_≡_}
 use mathlib.Core.Bool.{Bool, false, cond}
 use mathlib.Core.List.{List, [], _∷_}
-use Prim.Native.Nat.{ℕ, _+_, _-_, _^_, min}
+use Prim.Native.Nat.{ℕ, _+_, _-_, _%_, _^_, min}
 use Rattle.lists.specs.Lists.{run}
 use Rattle.labels.specs.Sets.{has}
 use Rattle.expression.specs.Limits.{atomLimit}
@@ -18,6 +18,10 @@ firstWeight c = 2 ^ (atomLimit - (c + 1))
 
 unfoldable pub firsts : Values ℕ
 firsts = leastBy firstWeight
+
+-- the same as 64-bit words keep it: sums wrap
+abbrev pub firstWords : Values ℕ
+firstWords = record { unit = 0; either = min; together = λ a b. (a + b) % 2 ^ 64; present = firstWeight; absent = λ c. 0 }
 
 -- the factor that lets only entries that pass a test count
 unfoldable pub passing : {X : Type 0} → (X → Bool) → X → Total ℕ

@@ -1,0 +1,66 @@
+-- What a walk over tables with first values says, as 64-bit words keep them: the table that it leaves is the definition's, the least value of what is
+-- accepted is that of a mask that may be shown with yes, and where nothing is accepted the answer is no. Assumes nothing.
+use mathlib.Core.Path.{_≡_, sym, ap, _∙_, subst}
+use mathlib.Core.Bool.{Bool, true, false, cond}
+use mathlib.Core.List.{List, [], _∷_}
+use Prim.Native.Nat.{ℕ}
+use native.Mathlib.Omega.{arith}
+use Rattle.expression.specs.declared.Counts.{Counts}
+use Rattle.expression.specs.declared.Checked.the-variants.{Passed}
+use Rattle.expression.specs.Checks.{Request, countsOf, check}
+use Rattle.expression.proofs.Accepted.{check-accepted}
+use Rattle.tables.specs.Algebras.{table}
+use Rattle.tables.specs.Definitions.{Pair, pairs, accepting, groundedAccepts}
+use Rattle.values.specs.Values.{Valued, valued, Total, none, worth, add, sumBy}
+use Rattle.values.specs.First.{firstWeight, firsts, firstWords, passing, shownBy}
+use Rattle.values.proofs.Items.{items}
+use Rattle.values.proofs.First.{sum-passing}
+use Rattle.values.proofs.Words.{words-table}
+use Rattle.decisions.specs.Decisions.{affirmed, denied, assumed, pairsFault, newest, walked, answer, grounded, expressionOf, Shows}
+use Rattle.decisions.proofs.Walks.{Settled, check-readable, walked-one}
+use Rattle.decisions.proofs.Demands.{Tree, tree-of, grounded-denied, grounded-affirmed}
+use Rattle.decisions.proofs.Shown.{carried, least-first, none-least}
+use Rattle.decisions.proofs.Carried.{valuedWalk, grounded-walked}
+
+-- the least value of what a table accepts
+abbrev pub leastIn : ℕ → List (Valued Pair ℕ) → Total ℕ
+leastIn K t = sumBy firsts (passing (accepting K)) t
+
+pub leastIn-cons : (K : ℕ) (x : Valued Pair ℕ) (t : List (Valued Pair ℕ)) → leastIn K (x ∷ t) ≡ add firsts (cond (accepting K (x .item)) (worth (x .value)) none) (leastIn K t)
+unfolding firsts
+leastIn-cons K x t = sum-passing firstWeight (accepting K) x t
+
+answer-settled : (b : Bool) → Settled (answer b)
+unfolding answer
+answer-settled true = tt
+answer-settled false = tt
+
+module _ (K : ℕ) (a : Request) {z : Counts} (passed : check K a ≡ Passed z) where
+  tree : Tree K (a .bytes)
+  tree = tree-of K a (check-readable K a passed)
+
+  -- the atoms that the checks counted are the tree's
+  tree-atoms : tree .count ≡ z .atoms
+  unfolding countsOf
+  tree-atoms = sym (tree .counted) ∙ ap (λ r. countsOf r .atoms) (check-accepted K a z passed .joined .read)
+
+  module _ {us : List (List (Valued Pair ℕ))} (left : valuedWalk (pairs K) firstWords (a .subsetLimit) K a ≡ walked us) where
+    -- one table is left, that of the definition
+    pub words-walked : us ≡ table (valued (pairs K) firsts) (assumed a) (expressionOf K (a .bytes)) ∷ []
+    words-walked =
+        walked-one (valued (pairs K) firstWords) (assumed a) (λ t. pairsFault (a .pairLimit) (a .subsetLimit) (items t)) K a us (check-readable K a passed) left
+        ∙ ap {B = List (List (Valued Pair ℕ))} (λ t. t ∷ []) (words-table (pairs K) (assumed a) (expressionOf K (a .bytes)) 0 (tree .count) (tree .numbered) (omega (arith, tree .few)))
+
+    settled : Settled (grounded K a)
+    settled = subst Settled (sym (grounded-walked firstWords K a passed left)) (answer-settled (groundedAccepts K (items (newest us))))
+
+    is-carried : leastIn K (newest us) ≡ carried K a tree
+    is-carried = ap (λ ts. leastIn K (newest ts)) words-walked
+
+    pub first-shown : (v : ℕ) → leastIn K (newest us) ≡ worth v → (grounded K a ≡ affirmed) × Shows K a (shownBy (z .atoms) v)
+    first-shown v h =
+        let s = subst (λ n. Shows K a (shownBy n v)) tree-atoms (least-first K a tree v (sym is-carried ∙ h) .shows) in
+        (grounded-affirmed K a settled .1 (shownBy (z .atoms) v, s), s)
+
+    pub none-shown : leastIn K (newest us) ≡ none → grounded K a ≡ denied
+    none-shown h = grounded-denied K a settled .1 (none-least K a tree (sym is-carried ∙ h))
