@@ -204,7 +204,8 @@ pub fn atom_table(
     r
 }
 
-// The table of a rule of label g, put at word `at`, where a table of no rows is; made in the words from `to` on. The answer is how many rows it has.
+// The table of a rule of label g, put at word `at`, where a table of no rows is; made in the words from `to` on. The answer is how many rows it has. The
+// row is the same whichever tables are made.
 pub fn rule_table(
     ws: &mut [u32],
     row: &mut [u32],
