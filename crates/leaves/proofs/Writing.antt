@@ -1,0 +1,93 @@
+-- The words of a leaf: its marks, its row, its value. Assumes nothing.
+use mathlib.Core.Path.{_≡_, refl, _∙_}
+use mathlib.Core.List.{List, [], _∷_}
+use Prim.Native.Nat.{ℕ, _+_, _*_, _%_, _^_, _≤_, _<_}
+use native.Mathlib.Nat.{one-mul}
+use native.Mathlib.Omega.{arith}
+use lib.ListN.{length, set}
+use lib.Pow.{shl-exact}
+use Rattle.labels.specs.Labels.{labelCount}
+use Rattle.tables.specs.Triples.{markT, markF, markU}
+use Rattle.tables.specs.Definitions.{pairs, flat}
+use Rattle.candidates.specs.Candidates.{pairOf, Readable}
+use Rattle.entries.specs.declared.Carry.{Carry}
+use Rattle.entries.specs.declared.Carry.the-variants.{Nothing, First}
+use Rattle.entries.specs.Carries.{carriedBy, Keeps}
+use Rattle.leaves.specs.declared.Tables.{Tables}
+use Rattle.leaves.specs.declared.Tables.the-variants.{Plain, Pairs}
+use Rattle.leaves.specs.Leaves.{algebraOf, Wide}
+
+-- one mark in a word of k digits
+pub mark-is : (m k : ℕ) → m < k → (1 * 2 ^ m) % 2 ^ k ≡ 2 ^ m
+mark-is m k l = shl-exact 1 m k (omega arith) (omega arith) ∙ one-mul (2 ^ m)
+
+-- ---- rows
+
+pub triple-written : (row : List ℕ) (q : ℕ) → 2 ≤ length row → Readable (set (set row 0 q) 1 0) × (pairOf (set (set row 0 q) 1 0) ≡ q ∷ [])
+unfolding pairOf
+triple-written [] q l = absurd (omega arith)
+triple-written (x ∷ []) q l = absurd (omega arith)
+triple-written (x ∷ y ∷ row) q l = (omega arith, refl)
+
+pub subset-written : (row : List ℕ) (q s : ℕ) → 3 ≤ length row → Readable (set (set (set row 0 q) 1 1) 2 s) × (pairOf (set (set (set row 0 q) 1 1) 2 s) ≡ q ∷ s ∷ [])
+unfolding pairOf
+subset-written [] q s l = absurd (omega arith)
+subset-written (x ∷ []) q s l = absurd (omega arith)
+subset-written (x ∷ y ∷ []) q s l = absurd (omega arith)
+subset-written (x ∷ y ∷ z ∷ row) q s l = (omega arith, refl)
+
+-- ---- pairs
+
+-- room for a triple, and for a subset in tables of pairs
+pub wide-two : (tables : Tables) (w : ℕ) → Wide tables w → 2 ≤ w
+wide-two Plain w l = l
+wide-two Pairs w l = omega arith
+
+-- any row of three words has room
+pub wide-three : (tables : Tables) (w : ℕ) → 3 ≤ w → Wide tables w
+wide-three Plain w l = omega arith
+wide-three Pairs w l = l
+
+pub pairs-three : (tables : Tables) (w : ℕ) → tables ≡ Pairs → Wide tables w → 3 ≤ w
+pairs-three Plain w e l = let q : _≡_ {A = ℕ} 0 1 = cc in absurd (omega arith)
+pairs-three Pairs w e l = l
+
+-- what an atom that is in, one that is out, and a rule are
+module _ (tables : Tables) (c g : ℕ) where
+  pub plain-present : tables ≡ Plain → 2 ^ g ∷ [] ≡ algebraOf tables labelCount .present c g
+  unfolding algebraOf flat markT
+  plain-present e = rw e
+
+  pub pairs-present : tables ≡ Pairs → 2 ^ g ∷ 2 ^ (labelCount + g) ∷ [] ≡ algebraOf tables labelCount .present c g
+  unfolding algebraOf pairs markT markF
+  pairs-present e = rw e
+
+pub absent-is : (tables : Tables) (c g : ℕ) → markF labelCount g ∷ [] ≡ algebraOf tables labelCount .absent c g
+unfolding algebraOf flat pairs
+absent-is Plain c g = refl
+absent-is Pairs c g = refl
+
+pub unmet-is : (tables : Tables) (g : ℕ) → markU labelCount g ∷ [] ≡ algebraOf tables labelCount .unmet g
+unfolding algebraOf flat pairs
+unmet-is Plain g = refl
+unmet-is Pairs g = refl
+
+-- ---- values
+
+-- words keep them
+pub keeps-present : (carry : Carry) (c : ℕ) → Keeps carry (carriedBy carry .present c)
+keeps-present Nothing c = refl
+keeps-present First c = tt
+
+pub keeps-zero : (carry : Carry) → Keeps carry 0
+keeps-zero Nothing = refl
+keeps-zero First = tt
+
+-- an atom that is out has none, and no rule has one
+pub absent-value : (carry : Carry) (c : ℕ) → carriedBy carry .absent c ≡ 0
+absent-value Nothing c = refl
+absent-value First c = refl
+
+pub unit-value : (carry : Carry) → carriedBy carry .unit ≡ 0
+unit-value Nothing = refl
+unit-value First = refl

@@ -1,0 +1,30 @@
+-- `leaves::write_absent`: one mark.
+use mathlib.Core.Path.{ap, _∙_}
+use mathlib.Core.List.{[], _∷_}
+use Prim.Native.Nat.{ℕ}
+use Rattle.tables.specs.Triples.{markF}
+use borrow.Author.Needs.{needs}
+use Rattle.leaves.proofs.write_absent.Statement.{statement}
+use Rattle.leaves.proofs.write_absent.Tie as tie
+
+add-mark : tie.Need-add-mark
+add-mark c = search needs
+
+mark-requires : tie.Need-mark-requires
+mark-requires c κs = search needs
+
+write-triple-requires : tie.Need-write-triple-requires
+write-triple-requires c κs = search needs
+
+same-length : tie.Need-same-length
+same-length c = search needs
+
+returns : tie.Need-returns
+unfolding markF
+returns c =
+    let k = c .before .before in
+    (k .write-triple .ensures .0, k .write-triple .ensures .1 ∙ ap (λ (q : ℕ). q ∷ []) (k .before .mark .ensures))
+
+pub write-absent-spec : {M : Type 1} → statement M
+write-absent-spec =
+    tie.close (tie.spec add-mark mark-requires write-triple-requires same-length returns)
