@@ -1,3 +1,4 @@
 pub mod Loads
 pub mod Uniting
 pub mod Mapping
+pub mod Pushing

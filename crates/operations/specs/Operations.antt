@@ -1,6 +1,6 @@
 -- One command on the tables of a workspace. Assumes nothing.
 use mathlib.Core.Path.{_≡_}
-use mathlib.Core.List.{List, map}
+use mathlib.Core.List.{List, _∷_, map}
 use Prim.Native.Nat.{ℕ, _≤_}
 use lib.ListN.{length, drop}
 use Rattle.lists.specs.Lists.{products}
@@ -36,3 +36,7 @@ unitedTable carry a b = tableOfAll carry (products (entryAlgebra labelCount carr
 -- what a relabel or a connect makes of a table
 abbrev pub mappedTable : Carry → Command → List Entry → List Entry
 mappedTable carry c t = tableOfAll carry (map (mapped c) t)
+
+-- a table more
+abbrev pub pushed : List Entry → List (List Entry) → List (List Entry)
+pushed x ts = x ∷ ts

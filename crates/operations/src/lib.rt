@@ -1,16 +1,22 @@
 // One command on the tables of a workspace.
 use entries::Carry;
 use expression::Command;
+use leaves::Tables;
 ghost use mathlib.Core.Path.{_≡_};
-ghost use Prim.Native.Nat.{ℕ, _+_, _-_, _*_, _≤_};
+ghost use mathlib.Core.List.{[], _∷_};
+ghost use Prim.Native.Nat.{ℕ, _+_, _-_, _*_, _≤_, _<_};
 ghost use lib.ListN.{length};
 ghost use Rattle.labels.specs.Labels.{labelCount};
 ghost use Rattle.expression.specs.Commands.{Suits};
-ghost use Rattle.expression.specs.Limits.{depthLimit};
+ghost use Rattle.expression.specs.Limits.{atomLimit, depthLimit};
 ghost use Rattle.semantics.specs.Expressions.{uniteNewest, changeNewest};
+ghost use Rattle.semantics.specs.AnswerSets.{byMasks};
+ghost use Rattle.tables.specs.Algebras.{leaf};
 ghost use Rattle.entries.specs.Carries.{Beside, Kept};
+ghost use Rattle.making.specs.Making.{tableOfAll};
+ghost use Rattle.leaves.specs.Leaves.{tableAlgebra, Wide};
 ghost use Rattle.workspace.specs.Workspace.{valuesFrom};
-ghost use Rattle.operations.specs.Operations.{Ready, Acts, unitedTable, mappedTable};
+ghost use Rattle.operations.specs.Operations.{Ready, Acts, unitedTable, mappedTable, pushed};
 
 // Where the values of table i begin.
 fn values_from(carry: Carry, p: usize, i: usize) -> usize
@@ -113,5 +119,89 @@ fn map_newest(
         c,
     );
     workspace::move_values(vals, made, carry, p, i, r);
+    r
+}
+
+// The table of the atom a, of label g, comes on t tables in d areas.
+fn push_atom(
+    ws: &mut [u32],
+    row: &mut [u32],
+    index: &mut [u32],
+    made: &mut [u64],
+    vals: &mut [u64],
+    tables: Tables,
+    carry: Carry,
+    d: usize,
+    w: usize,
+    p: usize,
+    t: usize,
+    a: u64,
+    g: u32,
+    assumed_true: u64,
+    assumed_false: u64,
+) -> usize
+    requires { ⌜ Wide tables w × (p ≤ 1024) × (d ≤ depthLimit + 1) × (length (now row) ≡ w) × (p ≤ length (now index)) × (a < atomLimit) × (g < labelCount) ⌝ }
+    requires { ⌜ Kept carry p 0 (now made) × Beside carry ((d - 1) * p) (now vals) ⌝ }
+    requires { ⌜ (t + 1 < d) × ((n : ℕ) × (m : ℕ) × Ready carry d w p t n m (now ws) (now vals)) ⌝ }
+    ensures { λ r. ⌜ ((n m : ℕ) → Acts carry d w p t n m (pushed (tableOfAll carry (leaf (tableAlgebra tables carry) (byMasks «assumed_true» «assumed_false») a g))) r (now (ws .entry)) (now (vals .entry)) (now (ws .exit)) (now (vals .exit)) (now (made .exit))) ⌝ }
+{
+    let area = p * w;
+    let r = leaves::atom_table(
+        ws,
+        row,
+        index,
+        made,
+        tables,
+        carry,
+        w,
+        p,
+        t * area,
+        (d - 1) * area,
+        a,
+        g,
+        assumed_true,
+        assumed_false,
+    );
+    if r <= p {
+        workspace::move_values(vals, made, carry, p, t, r);
+    }
+    r
+}
+
+// The table of a rule of label g comes on t tables in d areas.
+fn push_rule(
+    ws: &mut [u32],
+    row: &mut [u32],
+    index: &mut [u32],
+    made: &mut [u64],
+    vals: &mut [u64],
+    tables: Tables,
+    carry: Carry,
+    d: usize,
+    w: usize,
+    p: usize,
+    t: usize,
+    g: u32,
+) -> usize
+    requires { ⌜ (2 ≤ w) × (1 ≤ p) × (p ≤ 1024) × (d ≤ depthLimit + 1) × (length (now row) ≡ w) × (p ≤ length (now index)) × (g < labelCount) ⌝ }
+    requires { ⌜ Kept carry p 0 (now made) × Beside carry ((d - 1) * p) (now vals) ⌝ }
+    requires { ⌜ (t + 1 < d) × ((n : ℕ) × (m : ℕ) × Ready carry d w p t n m (now ws) (now vals)) ⌝ }
+    ensures { λ r. ⌜ ((n m : ℕ) → Acts carry d w p t n m (pushed (tableOfAll carry (tableAlgebra tables carry .unmet g ∷ []))) r (now (ws .entry)) (now (vals .entry)) (now (ws .exit)) (now (vals .exit)) (now (made .exit))) ⌝ }
+{
+    let area = p * w;
+    let r = leaves::rule_table(
+        ws,
+        row,
+        index,
+        made,
+        tables,
+        carry,
+        w,
+        p,
+        t * area,
+        (d - 1) * area,
+        g,
+    );
+    workspace::move_values(vals, made, carry, p, t, r);
     r
 }

@@ -1,0 +1,91 @@
+-- The table of a leaf as the newest of a workspace. Assumes nothing.
+use mathlib.Core.Path.{_≡_, refl, sym, ap, ap₂, _∙_}
+use mathlib.Core.Bool.{Bool, true, false, cond}
+use mathlib.Core.List.{List, [], _∷_, map}
+use Prim.Native.Nat.{ℕ, _+_, _-_, _*_, _≤_, _<_}
+use native.Mathlib.Omega.{arith}
+use lib.ListN.{length, length-map}
+use Rattle.lists.specs.Lists.{All}
+use Rattle.lists.specs.Sorted.{compareNumbers, Rising}
+use Rattle.lists.proofs.Members.{all-append}
+use Rattle.labels.specs.Labels.{labelCount}
+use Rattle.semantics.specs.AnswerSets.{Assumptions}
+use Rattle.tables.specs.Algebras.{leaf}
+use Rattle.tables.specs.Definitions.{subsets, pairs, flat}
+use Rattle.values.specs.Values.{valued}
+use Rattle.rows.specs.Parts.{put}
+use Rattle.rows.specs.Rows.{tableOf}
+use Rattle.entries.specs.declared.Carry.{Carry}
+use Rattle.entries.specs.Carries.{Entry, Beside}
+use Rattle.making.specs.Making.{tableOfAll, Finished}
+use Rattle.leaves.specs.declared.Tables.{Tables}
+use Rattle.leaves.specs.declared.Tables.the-variants.{Plain, Pairs}
+use Rattle.leaves.specs.Leaves.{algebraOf, tableAlgebra}
+use Rattle.workspace.specs.Workspace.{pairsOf, valuesFrom, placed, Acted}
+use Rattle.workspace.proofs.Areas as areas
+use Rattle.workspace.proofs.Acting.{sound-pairs, acted}
+use Rattle.operations.specs.Operations.{Loaded, pushed}
+use Rattle.operations.proofs.Loads.{beside-room}
+
+-- an entry whose pair has a triple, and rising subsets
+abbrev Filled : Entry → Type 0
+Filled x = 0 < length (x .item)
+
+abbrev Ordered : Entry → Type 0
+Ordered x = Rising compareNumbers (subsets (x .item))
+
+-- ---- the candidates of a leaf
+
+unless : (Q : Entry → Type 0) (b : Bool) (x : Entry) → Q x → All Q (cond b [] (x ∷ []))
+unless Q true x h = tt
+unless Q false x h = (h, tt)
+
+module _ (carry : Carry) where
+  present-filled : (kind : Tables) (c g : ℕ) → Filled (tableAlgebra kind carry .present c g) × Ordered (tableAlgebra kind carry .present c g)
+  unfolding tableAlgebra algebraOf valued pairs flat Rising
+  present-filled Plain c g = (omega arith, tt)
+  present-filled Pairs c g = (omega arith, (tt, tt))
+
+  absent-filled : (kind : Tables) (c g : ℕ) → Filled (tableAlgebra kind carry .absent c g) × Ordered (tableAlgebra kind carry .absent c g)
+  unfolding tableAlgebra algebraOf valued pairs flat Rising
+  absent-filled Plain c g = (omega arith, tt)
+  absent-filled Pairs c g = (omega arith, tt)
+
+  unmet-filled : (kind : Tables) (g : ℕ) → Filled (tableAlgebra kind carry .unmet g) × Ordered (tableAlgebra kind carry .unmet g)
+  unfolding tableAlgebra algebraOf valued pairs flat Rising
+  unmet-filled Plain g = (omega arith, tt)
+  unmet-filled Pairs g = (omega arith, tt)
+
+  module _ (kind : Tables) (o : Assumptions) (c g : ℕ) where
+    of-leaf : (Q : Entry → Type 0) → Q (tableAlgebra kind carry .present c g) → Q (tableAlgebra kind carry .absent c g) → All Q (leaf (tableAlgebra kind carry) o c g)
+    unfolding leaf
+    of-leaf Q h k =
+        all-append Q (cond (o .falses c) [] (tableAlgebra kind carry .present c g ∷ [])) (cond (o .trues c) [] (tableAlgebra kind carry .absent c g ∷ []))
+        (unless Q (o .falses c) (tableAlgebra kind carry .present c g) h) (unless Q (o .trues c) (tableAlgebra kind carry .absent c g) k)
+
+    pub leaf-filled : All Filled (leaf (tableAlgebra kind carry) o c g)
+    leaf-filled = of-leaf Filled (present-filled kind c g .0) (absent-filled kind c g .0)
+
+    pub leaf-ordered : All Ordered (leaf (tableAlgebra kind carry) o c g)
+    leaf-ordered = of-leaf Ordered (present-filled kind c g .1) (absent-filled kind c g .1)
+
+  pub rule-filled : (kind : Tables) (g : ℕ) → All Filled (tableAlgebra kind carry .unmet g ∷ [])
+  rule-filled kind g = (unmet-filled kind g .0, tt)
+
+  pub rule-ordered : (kind : Tables) (g : ℕ) → All Ordered (tableAlgebra kind carry .unmet g ∷ [])
+  rule-ordered kind g = (unmet-filled kind g .1, tt)
+
+-- ---- the table
+
+module _ {carry : Carry} {d w p t n m r : ℕ} {ws ws' vals vals' made : List ℕ} {cands : List Entry} (wide : 2 ≤ w) (free : t + 1 < d) (room : Beside carry ((d - 1) * p) vals)
+    (f : Finished carry w p (t * (p * w)) cands r ws ws ws' made) (filled : All Filled cands) (ordered : All Ordered cands)
+    (moved : r ≤ p → vals' ≡ placed carry (valuesFrom carry p t) r made vals) where
+  pub pushed-acted : (ts : List (List Entry)) (beyond : List ℕ) → Loaded carry d w p t n m ts beyond ws vals → Acted carry d w p (pushed (tableOfAll carry cands) ts) beyond r ws ws' vals'
+  pushed-acted ts beyond h =
+      let l = length-map ts pairsOf in
+      let here : t * (p * w) ≡ length (map pairsOf ts) * (p * w) = ap (λ (k : ℕ). k * (p * w)) (sym (l ∙ h .tables)) in
+      acted wide f ts beyond vals vals' filled ordered (h .holds .sound) (omega (arith, h .tables)) (h .holds .values)
+      (beside-room carry d p (length ts) vals (omega (arith, h .tables)) room)
+      (λ s. ap₂ (λ (k : ℕ) (v : List ℕ). put k (p * w) v (tableOf w p (pairsOf (tableOfAll carry cands)))) here (h .holds .words)
+          ∙ areas.pushed w p d beyond (map pairsOf ts) (sound-pairs w p ts (h .holds .sound)) (omega (arith, l, h .tables)) (pairsOf (tableOfAll carry cands)))
+      (λ g. moved g ∙ ap (λ (k : ℕ). placed carry (valuesFrom carry p k) r made vals) (sym (h .tables)))
