@@ -1,10 +1,6 @@
-// Postfix expressions of atoms and rules (01: sheets): commands, what reading them finds, and the checks that come before any table.
-pub mod checking;
-pub mod counting;
+// Postfix expressions of atoms and rules (01: sheets): commands, what reading them finds, and the checks that come before any table. The
+// definitions are in specs/, the laws in proofs/.
 pub mod limits;
-pub mod locating;
-pub mod outcomes;
-pub mod reading;
 pub mod refusals;
 
 // Which set of a rule a connect puts atoms into.

@@ -1,0 +1,130 @@
+// The checks that come before any table (01, Outcomes: 1 to 13).
+ghost use mathlib.Core.Path.{_≡_};
+ghost use mathlib.Core.Bool.{not, _&&_};
+ghost use Prim.Native.Nat.{_≤_, _<_, _^_};
+ghost use lib.Dec.{ltb};
+ghost use Rattle.labels.specs.Labels.{labelCount};
+ghost use Rattle.expression.specs.Commands.{refusalOf};
+ghost use Rattle.expression.specs.Limits.{tableLimit, workspaceNeed};
+ghost use Rattle.expression.specs.Checks.{isLimit, check, checkBytes};
+use commands::counting::count_fault;
+use commands::counting::counted;
+use commands::counting::no_counts;
+use commands::reading::read_at;
+use expression::Checked;
+use expression::Read;
+use expression::limits::BYTE_LIMIT;
+use expression::limits::DEPTH_LIMIT;
+use expression::limits::TABLE_LIMIT;
+use expression::refusals::ABSENT;
+use expression::refusals::CLASH;
+use expression::refusals::CRAMPED;
+use expression::refusals::LIMITS;
+use expression::refusals::OVERLONG;
+use expression::refusals::UNJOINED;
+
+// All checks in 01's order, with limits p and g, room for so many words, and the atoms assumed true and false as masks.
+pub fn check(
+    s: &[u8],
+    p: u64,
+    g: u64,
+    room: usize,
+    assumed_true: u64,
+    assumed_false: u64,
+) -> Checked
+    ensures { λ r. ⌜ r ≡ check labelCount (record { bytes = now (s .entry); pairLimit = p; subsetLimit = g; room = room; assumedTrue = «assumed_true»; assumedFalse = «assumed_false» }) ⌝ }
+{
+    if s.len() > BYTE_LIMIT {
+        return Checked::Refused(OVERLONG, 0);
+    }
+    if !are_limits(p, g) {
+        return Checked::Refused(LIMITS, 0);
+    }
+    if is_cramped(p, g, room) {
+        return Checked::Refused(CRAMPED, 0);
+    }
+    if assumed_true & assumed_false != 0 {
+        return Checked::Refused(CLASH, 0);
+    }
+    let r = check_bytes(s);
+    let Checked::Passed(n) = r else {
+        return r;
+    };
+    if has_absent(n.atoms, assumed_true, assumed_false) {
+        return Checked::Refused(ABSENT, s.len());
+    }
+    r
+}
+
+// 5 to 11 at the first faulty command, then 12; else the counts of the whole expression.
+pub fn check_bytes(s: &[u8]) -> Checked
+    ensures { λ r. ⌜ r ≡ checkBytes labelCount (now (s .entry)) ⌝ }
+{
+    let mut at: usize = 0;
+    let mut n = no_counts();
+    while at < s.len() {
+        let r = read_at(s, at);
+        let Read::Command(c, next) = r else {
+            return Checked::Refused(refusal_of(r), at);
+        };
+        let f = count_fault(n, c);
+        if f > 0 {
+            return Checked::Refused(f, at);
+        }
+        n = counted(n, c);
+        at = next;
+    }
+    if n.depth != 1 {
+        return Checked::Refused(UNJOINED, s.len());
+    }
+    Checked::Passed(n)
+}
+
+fn refusal_of(r: Read) -> u64
+    ensures { λ n. ⌜ n ≡ refusalOf r ⌝ }
+{
+    match r {
+        Read::Command(_, _) => 0,
+        Read::Fault(f) => f,
+    }
+}
+
+fn are_limits(p: u64, g: u64) -> bool
+    ensures { λ r. ⌜ r ≡ (isLimit p && isLimit g) ⌝ }
+{
+    if !is_limit(p) {
+        return false;
+    }
+    is_limit(g)
+}
+
+fn is_limit(n: u64) -> bool
+    ensures { λ r. ⌜ r ≡ isLimit n ⌝ }
+{
+    if n == 0 {
+        return false;
+    }
+    if n > TABLE_LIMIT {
+        return false;
+    }
+    true
+}
+
+// The product stays small, since the limits were tested.
+fn is_cramped(p: u64, g: u64, room: usize) -> bool
+    requires { ⌜ (p ≤ tableLimit) × (g ≤ tableLimit) ⌝ }
+    ensures { λ r. ⌜ r ≡ ltb room (workspaceNeed p g) ⌝ }
+{
+    (room as u64) < (DEPTH_LIMIT + 1) * (p * (g + 2))
+}
+
+// An assumption on an atom that is none of the n.
+fn has_absent(n: u64, assumed_true: u64, assumed_false: u64) -> bool
+    requires { ⌜ n < 64 ⌝ }
+    ensures { λ r. ⌜ r ≡ not (ltb «assumed_true» (2 ^ n) && ltb «assumed_false» (2 ^ n)) ⌝ }
+{
+    if assumed_true >> n != 0 {
+        return true;
+    }
+    assumed_false >> n != 0
+}
