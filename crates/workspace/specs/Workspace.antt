@@ -56,6 +56,14 @@ pub record Holds (carry : Carry) (d w p : ℕ) (ts : List (List Entry)) (beyond 
   pub free : length ts < d
   pub values : HeldValues carry p ts vals
 
+-- how many entries each table has, the oldest first; of k counts the others are 0
+unfoldable pub stackCounts : {X : Type 0} → List (List X) → List ℕ
+stackCounts [] = []
+stackCounts (t ∷ ts) = stackCounts ts ++ (length t ∷ [])
+
+unfoldable pub countsOf : {X : Type 0} → ℕ → List (List X) → List ℕ
+countsOf k ts = stackCounts ts ++ zeros (k - length ts)
+
 -- the values with r new ones at word o
 abbrev pub placed : Carry → ℕ → ℕ → List ℕ → List ℕ → List ℕ
 placed Nothing o r new vals = vals
