@@ -87,5 +87,5 @@ module _ {carry : Carry} {d w p t n m r : ℕ} {ws ws' vals vals' made : List �
       acted wide f ts beyond vals vals' filled ordered (h .holds .sound) (omega (arith, h .tables)) (h .holds .values)
       (beside-room carry d p (length ts) vals (omega (arith, h .tables)) room)
       (λ s. ap₂ (λ (k : ℕ) (v : List ℕ). put k (p * w) v (tableOf w p (pairsOf (tableOfAll carry cands)))) here (h .holds .words)
-          ∙ areas.pushed w p d beyond (map pairsOf ts) (sound-pairs w p ts (h .holds .sound)) (omega (arith, l, h .tables)) (pairsOf (tableOfAll carry cands)))
+      ∙ areas.pushed w p d beyond (map pairsOf ts) (sound-pairs w p ts (h .holds .sound)) (omega (arith, l, h .tables)) (pairsOf (tableOfAll carry cands)))
       (λ g. moved g ∙ ap (λ (k : ℕ). placed carry (valuesFrom carry p k) r made vals) (sym (h .tables)))

@@ -1,11 +1,13 @@
 -- One command on the tables of a workspace. Assumes nothing.
 use mathlib.Core.Path.{_≡_}
 use mathlib.Core.List.{List, _∷_, map}
-use Prim.Native.Nat.{ℕ, _≤_}
+use Prim.Native.Nat.{ℕ, _+_, _≤_, _<_}
 use lib.ListN.{length, drop}
 use Rattle.lists.specs.Lists.{products}
 use Rattle.labels.specs.Labels.{labelCount}
 use Rattle.expression.specs.declared.Command.{Command}
+use Rattle.expression.specs.declared.Command.the-variants.{Atom, Rule, Union, Relabel, Connect}
+use Rattle.expression.specs.Limits.{atomLimit}
 use Rattle.decisions.specs.Decisions.{newest}
 use Rattle.entries.specs.declared.Carry.{Carry}
 use Rattle.entries.specs.Carries.{Entry, entryAlgebra, Kept}
@@ -40,3 +42,11 @@ mappedTable carry c t = tableOfAll carry (map (mapped c) t)
 -- a table more
 abbrev pub pushed : List Entry → List (List Entry) → List (List Entry)
 pushed x ts = x ∷ ts
+
+-- where the command can act: operands enough, and for a leaf an area besides scratch, and a number for an atom
+abbrev pub Meets : Command → ℕ → ℕ → ℕ → Type 0
+Meets (Atom g) d t a = (t + 1 < d) × (a < atomLimit)
+Meets (Rule g) d t a = t + 1 < d
+Meets Union d t a = 2 ≤ t
+Meets (Relabel i j) d t a = 1 ≤ t
+Meets (Connect k i j) d t a = 1 ≤ t

@@ -9,14 +9,14 @@ ghost use lib.ListN.{length};
 ghost use Rattle.labels.specs.Labels.{labelCount};
 ghost use Rattle.expression.specs.Commands.{Suits};
 ghost use Rattle.expression.specs.Limits.{atomLimit, depthLimit};
-ghost use Rattle.semantics.specs.Expressions.{uniteNewest, changeNewest};
+ghost use Rattle.semantics.specs.Expressions.{act, uniteNewest, changeNewest};
 ghost use Rattle.semantics.specs.AnswerSets.{byMasks};
-ghost use Rattle.tables.specs.Algebras.{leaf};
+ghost use Rattle.tables.specs.Algebras.{leaf, tables};
 ghost use Rattle.entries.specs.Carries.{Beside, Kept};
 ghost use Rattle.making.specs.Making.{tableOfAll};
 ghost use Rattle.leaves.specs.Leaves.{tableAlgebra, Wide};
 ghost use Rattle.workspace.specs.Workspace.{valuesFrom};
-ghost use Rattle.operations.specs.Operations.{Ready, Acts, unitedTable, mappedTable, pushed};
+ghost use Rattle.operations.specs.Operations.{Ready, Acts, Meets, unitedTable, mappedTable, pushed};
 
 // Where the values of table i begin.
 fn values_from(carry: Carry, p: usize, i: usize) -> usize
@@ -204,4 +204,68 @@ fn push_rule(
     );
     workspace::move_values(vals, made, carry, p, t, r);
     r
+}
+
+// The command on t tables in d areas, the newest of n entries and the one below it of m; a is the number of the next atom. The answer is how many
+// entries the newest table has then; p + 1 where it would have more than p, p + 2 where a pair of it would have too many subsets.
+pub fn act(
+    ws: &mut [u32],
+    row: &mut [u32],
+    index: &mut [u32],
+    made: &mut [u64],
+    vals: &mut [u64],
+    kind: Tables,
+    carry: Carry,
+    d: usize,
+    w: usize,
+    p: usize,
+    t: usize,
+    n: usize,
+    m: usize,
+    c: Command,
+    a: u64,
+    assumed_true: u64,
+    assumed_false: u64,
+) -> usize
+    requires { ⌜ Wide kind w × (w ≤ 4096) × (1 ≤ p) × (p ≤ 1024) × (d ≤ depthLimit + 1) × (length (now row) ≡ w) × (p ≤ length (now index)) ⌝ }
+    requires { ⌜ Kept carry p 0 (now made) × Beside carry ((d - 1) * p) (now vals) ⌝ }
+    requires { ⌜ Suits labelCount c × Meets c d t a × Ready carry d w p t n m (now ws) (now vals) ⌝ }
+    ensures { λ r. ⌜ Acts carry d w p t n m (act (tables (tableAlgebra kind carry) (byMasks «assumed_true» «assumed_false»)) a c) r (now (ws .entry)) (now (vals .entry)) (now (ws .exit)) (now (vals .exit)) (now (made .exit)) ⌝ }
+{
+    match c {
+        Command::Atom(g) => push_atom(
+            ws,
+            row,
+            index,
+            made,
+            vals,
+            kind,
+            carry,
+            d,
+            w,
+            p,
+            t,
+            a,
+            g,
+            assumed_true,
+            assumed_false,
+        ),
+        Command::Rule(g) => push_rule(ws, row, index, made, vals, kind, carry, d, w, p, t, g),
+        Command::Union => unite_newest(ws, row, index, made, vals, carry, d, w, p, t, n, m),
+        Command::Relabel(_, _) => map_newest(ws, row, index, made, vals, carry, d, w, p, t, n, c),
+        Command::Connect(_, _, _) => map_newest(
+            ws,
+            row,
+            index,
+            made,
+            vals,
+            carry,
+            d,
+            w,
+            p,
+            t,
+            n,
+            c,
+        ),
+    }
 }

@@ -1,0 +1,104 @@
+-- What each command makes of a stack, as the definition's operations say it. Assumes nothing.
+use mathlib.Core.Path.{_≡_, refl, sym, ap, _∙_, subst}
+use mathlib.Core.List.{List, [], _∷_, map}
+use Prim.Native.Nat.{ℕ, _+_, _≤_, _<_}
+use Rattle.lists.specs.Lists.{products}
+use Rattle.lists.specs.Sorted.{canon}
+use Rattle.labels.specs.Labels.{labelCount}
+use Rattle.expression.specs.declared.Command.{Command}
+use Rattle.expression.specs.declared.Command.the-variants.{Atom, Rule, Union, Relabel, Connect}
+use Rattle.expression.specs.declared.Kind.{Kind}
+use Rattle.expression.specs.Commands.{Suits}
+use Rattle.expression.specs.Limits.{atomLimit}
+use Rattle.semantics.specs.Expressions.{act, uniteNewest, changeNewest}
+use Rattle.semantics.specs.AnswerSets.{Assumptions}
+use Rattle.tables.specs.Algebras.{leaf, tables}
+use Rattle.tables.specs.Definitions.{pairs, flat}
+use Rattle.candidates.specs.Candidates.{mapTriple, mapPairBy}
+use Rattle.values.specs.Values.{valued}
+use Rattle.entries.specs.declared.Carry.{Carry}
+use Rattle.entries.specs.Carries.{Entry, entryAlgebra}
+use Rattle.making.specs.Making.{tableOfAll}
+use Rattle.leaves.specs.declared.Tables.{Tables}
+use Rattle.leaves.specs.declared.Tables.the-variants.{Plain, Pairs}
+use Rattle.leaves.specs.Leaves.{algebraOf, tableAlgebra}
+use Rattle.leaves.proofs.Leaves.{atom-operation, rule-operation}
+use Rattle.workspace.specs.Workspace.{Acted}
+use Rattle.operations.specs.Operations.{Acts, Meets, pushed, unitedTable, mappedTable}
+
+-- the same stack
+pub acts-as : {carry : Carry} {d w p t n m : ℕ} {f g : List (List Entry) → List (List Entry)} {r : ℕ} {ws vals ws' vals' : List ℕ} (made' : List ℕ) → ((ts : List (List Entry)) → f ts ≡ g ts)
+    → Acts carry d w p t n m f r ws vals ws' vals' made' → Acts carry d w p t n m g r ws vals ws' vals' made'
+acts-as {carry} {d} {w} {p} {r = r} {ws = ws} {ws' = ws'} {vals' = vals'} made' e h = (λ ts beyond l. subst (λ us. Acted carry d w p us beyond r ws ws' vals') (e ts) (h .0 ts beyond l), h .1)
+
+module _ (kind : Tables) (carry : Carry) (o : Assumptions) (a : ℕ) where
+  abbrev act-on : Command → List (List Entry) → List (List Entry)
+  act-on c ts = act (tables (tableAlgebra kind carry) o) a c ts
+
+  pub atom-acts : (g : ℕ) {c : Command} → c ≡ Atom g → (ts : List (List Entry)) → pushed (tableOfAll carry (leaf (tableAlgebra kind carry) o a g)) ts ≡ act-on c ts
+  unfolding act
+  atom-acts g e ts = rw e (ap {B = List (List Entry)} (λ t. t ∷ ts) (atom-operation kind carry o a g))
+
+  pub rule-acts : (g : ℕ) {c : Command} → c ≡ Rule g → (ts : List (List Entry)) → pushed (tableOfAll carry (tableAlgebra kind carry .unmet g ∷ [])) ts ≡ act-on c ts
+  unfolding act
+  rule-acts g e ts = rw e (ap {B = List (List Entry)} (λ t. t ∷ ts) (rule-operation kind carry o g))
+
+union-is : (kind : Tables) (carry : Carry) (o : Assumptions) (x y : List Entry) → unitedTable carry x y ≡ tables (tableAlgebra kind carry) o .unionOp x y
+unfolding tables tableOfAll entryAlgebra tableAlgebra algebraOf valued pairs flat
+union-is Plain carry o x y = refl
+union-is Pairs carry o x y = refl
+
+relabel-is : (kind : Tables) (carry : Carry) (o : Assumptions) (i j : ℕ) (x : List Entry) → mappedTable carry (Relabel i j) x ≡ tables (tableAlgebra kind carry) o .relabelOp i j x
+unfolding tables tableOfAll entryAlgebra tableAlgebra algebraOf valued pairs flat mapPairBy mapTriple
+relabel-is Plain carry o i j x = refl
+relabel-is Pairs carry o i j x = refl
+
+connect-is : (kind : Tables) (carry : Carry) (o : Assumptions) (k : Kind) (i j : ℕ) (x : List Entry) → mappedTable carry (Connect k i j) x ≡ tables (tableAlgebra kind carry) o .connectOp k i j x
+unfolding tables tableOfAll entryAlgebra tableAlgebra algebraOf valued pairs flat mapPairBy mapTriple
+connect-is Plain carry o k i j x = refl
+connect-is Pairs carry o k i j x = refl
+
+module _ {Y : Type 0} where
+  unite-by : {f g : Y → Y → Y} → ((x y : Y) → f x y ≡ g x y) → (ys : List Y) → uniteNewest f ys ≡ uniteNewest g ys
+  unfolding uniteNewest
+  unite-by e [] = refl
+  unite-by e (b ∷ []) = refl
+  unite-by e (b ∷ a ∷ ys) = ap {B = List Y} (λ y. y ∷ ys) (e a b)
+
+  change-by : {f g : Y → Y} → ((x : Y) → f x ≡ g x) → (ys : List Y) → changeNewest f ys ≡ changeNewest g ys
+  unfolding changeNewest
+  change-by e [] = refl
+  change-by e (y ∷ ys) = ap {B = List Y} (λ x. x ∷ ys) (e y)
+
+module _ (kind : Tables) (carry : Carry) (o : Assumptions) (a : ℕ) where
+  pub union-acts : {c : Command} → c ≡ Union → (ts : List (List Entry)) → uniteNewest (unitedTable carry) ts ≡ act (tables (tableAlgebra kind carry) o) a c ts
+  unfolding act
+  union-acts e ts = rw e (unite-by (union-is kind carry o) ts)
+
+  pub relabel-acts : (i j : ℕ) {c : Command} → c ≡ Relabel i j → (ts : List (List Entry)) → changeNewest (mappedTable carry c) ts ≡ act (tables (tableAlgebra kind carry) o) a c ts
+  unfolding act
+  relabel-acts i j e ts = rw e (change-by (relabel-is kind carry o i j) ts)
+
+  pub connect-acts : (k : Kind) (i j : ℕ) {c : Command} → c ≡ Connect k i j → (ts : List (List Entry)) → changeNewest (mappedTable carry c) ts ≡ act (tables (tableAlgebra kind carry) o) a c ts
+  unfolding act
+  connect-acts k i j e ts = rw e (change-by (connect-is kind carry o k i j) ts)
+
+-- ---- what each command meets
+
+module _ {c : Command} (d t a : ℕ) where
+  pub atom-meets : {g : ℕ} → c ≡ Atom g → Suits labelCount c → Meets c d t a → (g < labelCount) × (t + 1 < d) × (a < atomLimit)
+  unfolding Suits
+  atom-meets e s m = let s' = rw e at s in let m' = rw e at m in (s', m' .0, m' .1)
+
+  pub rule-meets : {g : ℕ} → c ≡ Rule g → Suits labelCount c → Meets c d t a → (g < labelCount) × (t + 1 < d)
+  unfolding Suits
+  rule-meets e s m = let s' = rw e at s in let m' = rw e at m in (s', m')
+
+  pub union-meets : c ≡ Union → Meets c d t a → 2 ≤ t
+  union-meets e m = rw e at m
+
+  pub relabel-meets : {i j : ℕ} → c ≡ Relabel i j → Meets c d t a → 1 ≤ t
+  relabel-meets e m = rw e at m
+
+  pub connect-meets : {k : Kind} {i j : ℕ} → c ≡ Connect k i j → Meets c d t a → 1 ≤ t
+  connect-meets e m = rw e at m

@@ -1,0 +1,215 @@
+-- `operations::act`: one function for each kind of command.
+use Rattle.semantics.specs.AnswerSets.{byMasks}
+use Rattle.leaves.proofs.Writing.{wide-two}
+use Rattle.operations.proofs.Dispatch.{acts-as, atom-acts, rule-acts, union-acts, relabel-acts, connect-acts, atom-meets, rule-meets, union-meets, relabel-meets, connect-meets}
+use borrow.Author.Needs.{needs}
+use native.Mathlib.Omega.{arith}
+use borrow.Author.Needs.{needs}
+use Rattle.operations.proofs.act.Statement.{statement}
+use Rattle.operations.proofs.act.Tie as tie
+use Rattle.operations.proofs.map_newest.Reads as map-newest-reads
+use Rattle.operations.proofs.push_atom.Reads as push-atom-reads
+use Rattle.operations.proofs.push_rule.Reads as push-rule-reads
+use Rattle.operations.proofs.unite_newest.Reads as unite-newest-reads
+
+enum-known-c : tie.Need-enum-known-c
+enum-known-c c = search needs
+
+push-atom-requires : tie.Need-push-atom-requires
+push-atom-requires c κs =
+    let e = c .before .before .before .before .before .before in
+    let s = e .before .before .before .before .before .before .before in
+    let h = atom-meets (s .args .d) (s .args .t) (s .args .a) (e .c .given .1) (s .pre .1 .1 .0) (s .pre .1 .1 .1) in
+    ((s .pre .0 .0, s .pre .0 .3, s .pre .0 .4, s .pre .0 .5, s .pre .0 .6, h .2, h .0), (s .pre .1 .0, (h .1, (s .args .n, s .args .m, s .pre .1 .1 .2))))
+
+enum-known-c-2 : tie.Need-enum-known-c-2
+enum-known-c-2 c = search needs
+
+push-rule-requires : tie.Need-push-rule-requires
+push-rule-requires c κs =
+    let e = c .before .before .before .before .before .before in
+    let s = e .before .before .before .before .before .before .before in
+    let h = rule-meets (s .args .d) (s .args .t) (s .args .a) (e .c2 .given .1) (s .pre .1 .1 .0) (s .pre .1 .1 .1) in
+    ((wide-two (s .args .kind) (s .args .w) (s .pre .0 .0), s .pre .0 .2, s .pre .0 .3, s .pre .0 .4, s .pre .0 .5, s .pre .0 .6, h .0), (s .pre .1 .0, (h .1, (s .args .n, s .args .m, s .pre .1 .1 .2))))
+
+enum-told : tie.Need-enum-told
+enum-told c = search needs
+
+unite-newest-requires : tie.Need-unite-newest-requires
+unite-newest-requires c κs =
+    let e = c .before .before .before .before .before in
+    let s = e .before .before .before .before .before .before .before in
+    ((wide-two (s .args .kind) (s .args .w) (s .pre .0 .0), s .pre .0 .1, s .pre .0 .3, s .pre .0 .4, s .pre .0 .5, s .pre .0 .6), (s .pre .1 .0, (union-meets (s .args .d) (s .args .t) (s .args .a) (e .enum-told .given .1) (s .pre .1 .1 .1), s .pre .1 .1 .2)))
+
+enum-told-2 : tie.Need-enum-told-2
+enum-told-2 c = search needs
+
+map-newest-requires : tie.Need-map-newest-requires
+map-newest-requires c κs =
+    let e = c .before .before .before .before .before in
+    let s = e .before .before .before .before .before .before .before in
+    ((wide-two (s .args .kind) (s .args .w) (s .pre .0 .0), s .pre .0 .1, s .pre .0 .3, s .pre .0 .4, s .pre .0 .5, s .pre .0 .6), ((s .pre .1 .0 .0, s .pre .1 .0 .1, s .pre .1 .1 .0), (relabel-meets (s .args .d) (s .args .t) (s .args .a) (e .enum-told2 .given .1) (s .pre .1 .1 .1), (s .args .m, s .pre .1 .1 .2))))
+
+enum-told-3 : tie.Need-enum-told-3
+enum-told-3 c = search needs
+
+map-newest-requires-2 : tie.Need-map-newest-requires-2
+map-newest-requires-2 c κs =
+    let e = c .before .before .before .before .before in
+    let s = e .before .before .before .before .before .before .before in
+    ((wide-two (s .args .kind) (s .args .w) (s .pre .0 .0), s .pre .0 .1, s .pre .0 .3, s .pre .0 .4, s .pre .0 .5, s .pre .0 .6), ((s .pre .1 .0 .0, s .pre .1 .0 .1, s .pre .1 .1 .0), (connect-meets (s .args .d) (s .args .t) (s .args .a) (e .enum-told3 .given .1) (s .pre .1 .1 .1), (s .args .m, s .pre .1 .1 .2))))
+
+same-length : tie.Need-same-length
+same-length c = search needs
+
+same-length-2 : tie.Need-same-length-2
+same-length-2 c = search needs
+
+same-length-3 : tie.Need-same-length-3
+same-length-3 c = search needs
+
+same-length-4 : tie.Need-same-length-4
+same-length-4 c = search needs
+
+same-length-5 : tie.Need-same-length-5
+same-length-5 c = search needs
+
+returns : tie.Need-returns
+returns c =
+    let u = c .before .before .before .before .before .before .before .before .before .before in
+    let e = u .before .before .before .before .before .before .before in
+    let s = e .before .before .before .before .before .before .before in
+    acts-as _ (atom-acts (s .args .kind) (s .args .carry) (byMasks (s .args .assumed-true) (s .args .assumed-false)) (s .args .a) _ (e .c .given .1)) (u .push-atom .ensures (s .args .n) (s .args .m))
+
+same-length-6 : tie.Need-same-length-6
+same-length-6 c = search needs
+
+same-length-7 : tie.Need-same-length-7
+same-length-7 c = search needs
+
+same-length-8 : tie.Need-same-length-8
+same-length-8 c = search needs
+
+same-length-9 : tie.Need-same-length-9
+same-length-9 c = search needs
+
+same-length-10 : tie.Need-same-length-10
+same-length-10 c = search needs
+
+returns-2 : tie.Need-returns-2
+returns-2 c =
+    let u = c .before .before .before .before .before .before .before .before .before .before in
+    let e = u .before .before .before .before .before .before .before in
+    let s = e .before .before .before .before .before .before .before in
+    acts-as _ (rule-acts (s .args .kind) (s .args .carry) (byMasks (s .args .assumed-true) (s .args .assumed-false)) (s .args .a) _ (e .c2 .given .1)) (u .push-rule .ensures (s .args .n) (s .args .m))
+
+same-length-11 : tie.Need-same-length-11
+same-length-11 c = search needs
+
+same-length-12 : tie.Need-same-length-12
+same-length-12 c = search needs
+
+same-length-13 : tie.Need-same-length-13
+same-length-13 c = search needs
+
+same-length-14 : tie.Need-same-length-14
+same-length-14 c = search needs
+
+same-length-15 : tie.Need-same-length-15
+same-length-15 c = search needs
+
+returns-3 : tie.Need-returns-3
+returns-3 c =
+    let u = c .before .before .before .before .before .before .before .before .before .before in
+    let e = u .before .before .before .before .before .before in
+    let s = e .before .before .before .before .before .before .before in
+    acts-as _ (union-acts (s .args .kind) (s .args .carry) (byMasks (s .args .assumed-true) (s .args .assumed-false)) (s .args .a) (e .enum-told .given .1)) (u .unite-newest .ensures)
+
+same-length-16 : tie.Need-same-length-16
+same-length-16 c = search needs
+
+same-length-17 : tie.Need-same-length-17
+same-length-17 c = search needs
+
+same-length-18 : tie.Need-same-length-18
+same-length-18 c = search needs
+
+same-length-19 : tie.Need-same-length-19
+same-length-19 c = search needs
+
+same-length-20 : tie.Need-same-length-20
+same-length-20 c = search needs
+
+returns-4 : tie.Need-returns-4
+returns-4 c =
+    let u = c .before .before .before .before .before .before .before .before .before .before in
+    let e = u .before .before .before .before .before .before in
+    let s = e .before .before .before .before .before .before .before in
+    acts-as _ (relabel-acts (s .args .kind) (s .args .carry) (byMasks (s .args .assumed-true) (s .args .assumed-false)) (s .args .a) _ _ (e .enum-told2 .given .1)) (u .map-newest .ensures (s .args .m))
+
+same-length-21 : tie.Need-same-length-21
+same-length-21 c = search needs
+
+same-length-22 : tie.Need-same-length-22
+same-length-22 c = search needs
+
+same-length-23 : tie.Need-same-length-23
+same-length-23 c = search needs
+
+same-length-24 : tie.Need-same-length-24
+same-length-24 c = search needs
+
+same-length-25 : tie.Need-same-length-25
+same-length-25 c = search needs
+
+returns-5 : tie.Need-returns-5
+returns-5 c =
+    let u = c .before .before .before .before .before .before .before .before .before .before in
+    let e = u .before .before .before .before .before .before in
+    let s = e .before .before .before .before .before .before .before in
+    acts-as _ (connect-acts (s .args .kind) (s .args .carry) (byMasks (s .args .assumed-true) (s .args .assumed-false)) (s .args .a) _ _ _ (e .enum-told3 .given .1)) (u .map-newest2 .ensures (s .args .m))
+
+pub act-spec : {M : Type 1} → statement M
+act-spec =
+    tie.close
+    (tie.spec
+    enum-known-c
+    push-atom-requires
+    enum-known-c-2
+    push-rule-requires
+    enum-told
+    unite-newest-requires
+    enum-told-2
+    map-newest-requires
+    enum-told-3
+    map-newest-requires-2
+    same-length
+    same-length-2
+    same-length-3
+    same-length-4
+    same-length-5
+    returns
+    same-length-6
+    same-length-7
+    same-length-8
+    same-length-9
+    same-length-10
+    returns-2
+    same-length-11
+    same-length-12
+    same-length-13
+    same-length-14
+    same-length-15
+    returns-3
+    same-length-16
+    same-length-17
+    same-length-18
+    same-length-19
+    same-length-20
+    returns-4
+    same-length-21
+    same-length-22
+    same-length-23
+    same-length-24
+    same-length-25
+    returns-5)
