@@ -1,10 +1,20 @@
-// The answer that a table of rows gives: whether a row accepts.
+// The answer that a table of rows gives: whether a row accepts, and the least value of those that do.
+use entries::Carry;
 ghost use mathlib.Core.Path.{_≡_};
+ghost use Prim.Native.Nat.{_+_, _*_, _≤_};
+ghost use lib.ListN.{length};
 ghost use Rattle.lists.specs.Lists.{some};
 ghost use Rattle.labels.specs.Labels.{labelCount};
 ghost use Rattle.tables.specs.Triples.{allMet};
 ghost use Rattle.tables.specs.Definitions.{accepting};
+ghost use Rattle.values.specs.Values.{worth, add, sumBy};
+ghost use Rattle.values.specs.First.{firsts, passing};
 ghost use Rattle.candidates.specs.Candidates.{pairOf, Readable};
+ghost use Rattle.rows.specs.Parts.{part};
+ghost use Rattle.rows.specs.Rows.{Rows};
+ghost use Rattle.entries.specs.Carries.{Beside};
+ghost use Rattle.making.specs.Making.{entriesAt};
+ghost use Rattle.answers.specs.Answers.{totalOf};
 
 // A triple below it has U empty.
 const UNMET: u32 = 1 << (2 * labels::LABELS as u32);
@@ -33,4 +43,46 @@ pub fn accepts_row(row: &[u32]) -> bool
     }
     let n = row[1] as usize;
     !some_met(&row[2..2 + n])
+}
+
+// The least value of the rows that accept, where there is one.
+pub enum Found {
+    None,
+    Least(u64),
+}
+
+// The least with one value more.
+fn with_value(best: Found, v: u64) -> Found
+    ensures { λ r. ⌜ totalOf r ≡ add firsts (totalOf best) (worth v) ⌝ }
+{
+    match best {
+        Found::None => Found::Least(v),
+        Found::Least(u) => Found::Least(entries::either(Carry::First, u, v)),
+    }
+}
+
+// The least value of the rows that accept, of the n rows at word a with the values `vals`. With nothing carried, the value of every row is 0.
+pub fn least_accepting(
+    ws: &[u32],
+    vals: &[u64],
+    carry: Carry,
+    w: usize,
+    p: usize,
+    a: usize,
+    n: usize,
+) -> Found
+    requires { ⌜ (a + p * w ≤ length (now ws)) × Rows w p n (part a (p * w) (now ws)) × Beside carry n (now vals) ⌝ }
+    ensures { λ r. ⌜ totalOf r ≡ sumBy firsts (passing (accepting labelCount)) (entriesAt carry w p a n (now (vals .entry)) (now (ws .entry))) ⌝ }
+{
+    let mut best = Found::None;
+    let mut j = 0;
+    while j < n {
+        let ra = a + j * w;
+        if accepts_row(&ws[ra..ra + w]) {
+            let v = entries::value_at(vals, carry, n, j);
+            best = with_value(best, v);
+        }
+        j += 1;
+    }
+    best
 }

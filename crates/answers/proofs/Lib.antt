@@ -1,0 +1,3 @@
+pub mod Leasts
+pub mod Remaining
+pub mod Accepting
