@@ -1,3 +1,4 @@
 pub mod Leasts
 pub mod Remaining
 pub mod Accepting
+pub mod Shown

@@ -1,14 +1,16 @@
-// The answer that a table of rows gives: whether a row accepts, and the least value of those that do.
+// The answer that a table of rows gives: whether a row accepts, the least value of those that do, and the interpretation that has such a value.
 use entries::Carry;
+use expression::limits::ATOM_LIMIT;
 ghost use mathlib.Core.Path.{_≡_};
 ghost use Prim.Native.Nat.{_+_, _*_, _≤_};
 ghost use lib.ListN.{length};
 ghost use Rattle.lists.specs.Lists.{some};
 ghost use Rattle.labels.specs.Labels.{labelCount};
+ghost use Rattle.expression.specs.Limits.{atomLimit};
 ghost use Rattle.tables.specs.Triples.{allMet};
 ghost use Rattle.tables.specs.Definitions.{accepting};
 ghost use Rattle.values.specs.Values.{worth, add, sumBy};
-ghost use Rattle.values.specs.First.{firsts, passing};
+ghost use Rattle.values.specs.First.{firsts, passing, shownBy};
 ghost use Rattle.candidates.specs.Candidates.{pairOf, Readable};
 ghost use Rattle.rows.specs.Parts.{part};
 ghost use Rattle.rows.specs.Rows.{Rows};
@@ -85,4 +87,20 @@ pub fn least_accepting(
         j += 1;
     }
     best
+}
+
+// The mask of the interpretation of n atoms that has the value v: bit 62 - c of v is atom c.
+pub fn shown_mask(n: u64, v: u64) -> u64
+    requires { ⌜ n ≤ atomLimit ⌝ }
+    ensures { λ r. ⌜ r ≡ shownBy n v ⌝ }
+{
+    let mut mask = 0;
+    let mut c = 0;
+    while c < n {
+        if (v >> (ATOM_LIMIT - (c + 1))) % 2 == 1 {
+            mask |= 1 << c;
+        }
+        c += 1;
+    }
+    mask
 }
