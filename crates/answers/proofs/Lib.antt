@@ -1,0 +1,4 @@
+pub mod Leasts
+pub mod Remaining
+pub mod Accepting
+pub mod Shown
