@@ -1,0 +1,47 @@
+-- What a decision leaves and answers, on the way to its outcome. Assumes nothing.
+use mathlib.Core.Path.{_≡_}
+use mathlib.Core.List.{List, _++_}
+use Prim.Native.Nat.{ℕ}
+use lib.ListN.{length, drop}
+use Rattle.labels.specs.Labels.{labelCount}
+use Rattle.expression.specs.declared.Checked.{Checked}
+use Rattle.expression.specs.declared.Checked.the-variants as checked
+use Rattle.expression.specs.declared.Outcome.{Outcome}
+use Rattle.expression.specs.declared.Outcome.the-variants.{Yes, No, Refused}
+use Rattle.expression.specs.Limits.{workspaceNeed}
+use Rattle.expression.specs.Checks.{Request, check}
+use Rattle.semantics.specs.AnswerSets.{Assumptions}
+use Rattle.tables.specs.Definitions.{accepting}
+use Rattle.values.specs.Values.{Total, none, worth, sumBy}
+use Rattle.values.specs.First.{firsts, passing}
+use Rattle.decisions.specs.Decisions.{newest, stopped, walked}
+use Rattle.rows.specs.Parts.{zeros}
+use Rattle.entries.specs.declared.Carry.{Carry}
+use Rattle.entries.specs.Carries.{Entry}
+use Rattle.leaves.specs.declared.Tables.{Tables}
+use Rattle.answers.specs.declared.Found.{Found}
+use Rattle.answers.specs.declared.Found.the-variants as found
+use Rattle.walks.specs.Walks.{walkTo}
+
+-- the words with zeros over the first n
+abbrev pub cleared : ℕ → List ℕ → List ℕ
+cleared n ws = zeros n ++ drop n ws
+
+-- 01, Outcomes: a refusal by a check changes no buffer; after any other outcome the words needed are zero and the rest is untouched
+unfoldable pub wordsAfter : ℕ → Request → List ℕ → List ℕ
+wordsAfter K a ws = elim (check K a) [ checked.Passed z ↦ cleared (workspaceNeed (a .pairLimit) (a .subsetLimit)) ws | checked.Refused n at ↦ ws ]
+
+-- the least value of the entries that accept
+abbrev pub leastOf : List Entry → Total ℕ
+leastOf t = sumBy firsts (passing (accepting labelCount)) t
+
+-- an outcome with the least value for a plan: where the walk stops, or what the last table says
+abbrev pub Decides : Tables → Carry → Assumptions → ℕ → ℕ → List ℕ → Outcome → Type 0
+Decides kind carry o w p s (Yes v) = (us : List (List Entry)) × (walkTo kind carry o w p (length s) s ≡ walked us) × (leastOf (newest us) ≡ worth v)
+Decides kind carry o w p s No = (us : List (List Entry)) × (walkTo kind carry o w p (length s) s ≡ walked us) × (leastOf (newest us) ≡ none)
+Decides kind carry o w p s (Refused n at) = walkTo kind carry o w p (length s) s ≡ stopped n at
+
+-- the outcome with the value that was found
+abbrev pub valueOutcome : Found → Outcome
+valueOutcome found.None = No
+valueOutcome (found.Least v) = Yes v
