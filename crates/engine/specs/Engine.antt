@@ -13,10 +13,11 @@ use Rattle.expression.specs.Checks.{Request, check}
 use Rattle.semantics.specs.AnswerSets.{Assumptions}
 use Rattle.tables.specs.Definitions.{accepting}
 use Rattle.values.specs.Values.{Total, none, worth, sumBy}
-use Rattle.values.specs.First.{firsts, passing}
+use Rattle.values.specs.First.{firsts, passing, shownBy}
 use Rattle.decisions.specs.Decisions.{newest, stopped, walked}
 use Rattle.rows.specs.Parts.{zeros}
 use Rattle.entries.specs.declared.Carry.{Carry}
+use Rattle.entries.specs.declared.Carry.the-variants.{Nothing, First}
 use Rattle.entries.specs.Carries.{Entry}
 use Rattle.leaves.specs.declared.Tables.{Tables}
 use Rattle.answers.specs.declared.Found.{Found}
@@ -45,3 +46,25 @@ Decides kind carry o w p s (Refused n at) = walkTo kind carry o w p (length s) s
 abbrev pub valueOutcome : Found → Outcome
 valueOutcome found.None = No
 valueOutcome (found.Least v) = Yes v
+
+-- with the mask of the interpretation of n atoms that has such a value
+abbrev pub shownOutcome : ℕ → Outcome → Outcome
+shownOutcome n (Yes v) = Yes (shownBy n v)
+shownOutcome n No = No
+shownOutcome n (Refused f at) = Refused f at
+
+-- without a mask
+abbrev pub plainOutcome : Outcome → Outcome
+plainOutcome (Yes v) = Yes 0
+plainOutcome No = No
+plainOutcome (Refused f at) = Refused f at
+
+-- the refusal of the checks
+abbrev pub refusalOutcome : Checked → Outcome
+refusalOutcome (checked.Passed z) = No
+refusalOutcome (checked.Refused n at) = Refused n at
+
+-- how many words of values a table of p rows takes
+abbrev pub valueWords : Carry → ℕ → ℕ
+valueWords Nothing p = 0
+valueWords First p = p

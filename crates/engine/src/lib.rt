@@ -1,6 +1,7 @@
 // The decisions: whether some answer set, or some model, obeys the assumptions.
 use answers::Found;
 use entries::Carry;
+use expression::Checked;
 use expression::Outcome;
 use leaves::Tables;
 use walks::Reached;
@@ -10,13 +11,15 @@ ghost use lib.ListN.{length};
 ghost use Rattle.labels.specs.Labels.{labelCount};
 ghost use Rattle.expression.specs.declared.Checked.the-variants.{Passed};
 ghost use Rattle.expression.specs.declared.Counts.{Counts};
-ghost use Rattle.expression.specs.Limits.{depthLimit};
+ghost use Rattle.expression.specs.Limits.{atomLimit, depthLimit};
 ghost use Rattle.expression.specs.Checks.{checkBytes};
 ghost use Rattle.semantics.specs.AnswerSets.{byMasks};
 ghost use Rattle.rows.specs.Parts.{zeros};
 ghost use Rattle.entries.specs.Carries.{Beside, Kept};
+ghost use Rattle.entries.specs.declared.Carry.the-variants.{Nothing, First};
+ghost use Rattle.leaves.specs.declared.Tables.the-variants.{Plain, Pairs};
 ghost use Rattle.leaves.specs.Leaves.{Wide};
-ghost use Rattle.engine.specs.Engine.{cleared, valueOutcome, Decides};
+ghost use Rattle.engine.specs.Engine.{cleared, valueOutcome, shownOutcome, plainOutcome, refusalOutcome, valueWords, Decides};
 
 // Yes with the least value, or no.
 fn outcome_of(found: Found) -> Outcome
@@ -80,4 +83,164 @@ fn decide(
             outcome_of(found)
         }
     }
+}
+
+// How many words of values a table of p rows takes.
+fn value_words(carry: Carry, p: usize) -> usize
+    ensures { λ r. ⌜ r ≡ valueWords carry p ⌝ }
+{
+    match carry {
+        Carry::Nothing => 0,
+        Carry::First => p,
+    }
+}
+
+// As decide, in arrays that are long enough.
+fn decide_in(
+    s: &[u8],
+    ws: &mut [u32],
+    row: &mut [u32],
+    index: &mut [u32],
+    made: &mut [u64],
+    vals: &mut [u64],
+    counts: &mut [u64],
+    kind: Tables,
+    carry: Carry,
+    w: usize,
+    p: usize,
+    need: usize,
+    assumed_true: u64,
+    assumed_false: u64,
+) -> Outcome
+    requires { ⌜ Wide kind w × (w ≤ 4096) × (1 ≤ p) × (p ≤ 1024) × (w ≤ length (now row)) × (p ≤ length (now index)) ⌝ }
+    requires { ⌜ (now made ≡ zeros (length (now made))) × (valueWords carry p ≤ length (now made)) × Beside carry (depthLimit * p) (now vals) × (now counts ≡ zeros depthLimit) ⌝ }
+    requires { ⌜ ((z : Counts) × (checkBytes labelCount (now s) ≡ Passed z)) × (need ≤ length (now ws)) × ((depthLimit + 1) * (p * w) ≤ need) ⌝ }
+    ensures { λ r. ⌜ Decides kind carry (byMasks «assumed_true» «assumed_false») w p (now (s .entry)) r ⌝ }
+    ensures { λ r. ⌜ now (ws .exit) ≡ cleared need (now (ws .entry)) ⌝ }
+{
+    let m = value_words(carry, p);
+    decide(
+        s,
+        ws,
+        &mut row[..w],
+        index,
+        &mut made[..m],
+        vals,
+        counts,
+        kind,
+        carry,
+        w,
+        p,
+        need,
+        assumed_true,
+        assumed_false,
+    )
+}
+
+// Yes with the mask of the interpretation of n atoms that has the value.
+fn shown(o: Outcome, n: u64) -> Outcome
+    requires { ⌜ n ≤ atomLimit ⌝ }
+    ensures { λ r. ⌜ r ≡ shownOutcome n o ⌝ }
+{
+    match o {
+        Outcome::Yes(v) => Outcome::Yes(answers::shown_mask(n, v)),
+        Outcome::No => Outcome::No,
+        Outcome::Refused(f, at) => Outcome::Refused(f, at),
+    }
+}
+
+// Yes without a mask.
+fn unshown(o: Outcome) -> Outcome
+    ensures { λ r. ⌜ r ≡ plainOutcome o ⌝ }
+{
+    match o {
+        Outcome::Yes(_) => Outcome::Yes(0),
+        Outcome::No => Outcome::No,
+        Outcome::Refused(f, at) => Outcome::Refused(f, at),
+    }
+}
+
+// What a check refuses.
+fn refusal(r: Checked) -> Outcome
+    ensures { λ o. ⌜ o ≡ refusalOutcome r ⌝ }
+{
+    match r {
+        Checked::Passed(_) => Outcome::No,
+        Checked::Refused(n, at) => Outcome::Refused(n, at),
+    }
+}
+
+// As decide, over tables of pairs with values, in arrays made here.
+fn decide_pairs(
+    s: &[u8],
+    ws: &mut [u32],
+    w: usize,
+    p: usize,
+    need: usize,
+    assumed_true: u64,
+    assumed_false: u64,
+) -> Outcome
+    requires { ⌜ (3 ≤ w) × (w ≤ 1026) × (1 ≤ p) × (p ≤ 1024) ⌝ }
+    requires { ⌜ ((z : Counts) × (checkBytes labelCount (now s) ≡ Passed z)) × (need ≤ length (now ws)) × ((depthLimit + 1) * (p * w) ≤ need) ⌝ }
+    ensures { λ r. ⌜ Decides Pairs First (byMasks «assumed_true» «assumed_false») w p (now (s .entry)) r ⌝ }
+    ensures { λ r. ⌜ now (ws .exit) ≡ cleared need (now (ws .entry)) ⌝ }
+{
+    let mut row = [0u32; 1026];
+    let mut index = [0u32; 1024];
+    let mut made = [0u64; 1024];
+    let mut vals = [0u64; 8192];
+    let mut counts = [0u64; 8];
+    decide_in(
+        s,
+        ws,
+        &mut row,
+        &mut index,
+        &mut made,
+        &mut vals,
+        &mut counts,
+        Tables::Pairs,
+        Carry::First,
+        w,
+        p,
+        need,
+        assumed_true,
+        assumed_false,
+    )
+}
+
+// As decide, over plain tables, which carry nothing, in arrays made here.
+fn decide_plain(
+    s: &[u8],
+    ws: &mut [u32],
+    p: usize,
+    need: usize,
+    assumed_true: u64,
+    assumed_false: u64,
+) -> Outcome
+    requires { ⌜ (1 ≤ p) × (p ≤ 1024) ⌝ }
+    requires { ⌜ ((z : Counts) × (checkBytes labelCount (now s) ≡ Passed z)) × (need ≤ length (now ws)) × ((depthLimit + 1) * (p * 2) ≤ need) ⌝ }
+    ensures { λ r. ⌜ Decides Plain Nothing (byMasks «assumed_true» «assumed_false») 2 p (now (s .entry)) r ⌝ }
+    ensures { λ r. ⌜ now (ws .exit) ≡ cleared need (now (ws .entry)) ⌝ }
+{
+    let mut row = [0u32; 2];
+    let mut index = [0u32; 1024];
+    let mut made = [0u64; 1];
+    let mut vals = [0u64; 1];
+    let mut counts = [0u64; 8];
+    decide_in(
+        s,
+        ws,
+        &mut row,
+        &mut index,
+        &mut made,
+        &mut vals,
+        &mut counts,
+        Tables::Plain,
+        Carry::Nothing,
+        2,
+        p,
+        need,
+        assumed_true,
+        assumed_false,
+    )
 }

@@ -35,6 +35,20 @@ passed-by z n t ts h = step (t .refuses) refl h
     step true e h = let q : _≡_ {A = ℕ} 0 1 = cc in absurd (omega arith)
     step false e h = (e, h)
 
+-- what passes all checks passes those of the bytes
+pub check-bytes : (K : ℕ) (a : Request) (n : Counts) → check K a ≡ Passed n → checkBytes K (a .bytes) ≡ Passed n
+unfolding check checks checkBytes
+check-bytes K a n h =
+    let r = reading K (a .bytes) in
+    let one = passed-by (countsOf r) n _ _ h in
+    let two = passed-by (countsOf r) n _ _ (one .1) in
+    let three = passed-by (countsOf r) n _ _ (two .1) in
+    let four = passed-by (countsOf r) n _ _ (three .1) in
+    let read = passed-by (countsOf r) n _ _ (four .1) in
+    let twelve = passed-by (countsOf r) n _ _ (read .1) in
+    let thirteen = passed-by (countsOf r) n _ _ (twelve .1) in
+    sym (passes (countsOf r) (faultTest r) _ (Passed n) (read .0) (passes (countsOf r) (unjoinedTest (a .bytes) r) [] (Passed n) (twelve .0) (sym (thirteen .1))))
+
 pub check-accepted : (K : ℕ) (a : Request) (n : Counts) → check K a ≡ Passed n → Accepted K a n
 unfolding check checks checkBytes overlongTest limitsTest crampedTest clashTest absentTest
 check-accepted K a n h =
@@ -56,7 +70,7 @@ check-accepted K a n h =
       subsets = limit-tested (a .subsetLimit) (limits .1);
       room = ltb-false (a .room) (workspaceNeed (a .pairLimit) (a .subsetLimit)) (three .0);
       apart = eqb-true (bitAnd (a .assumedTrue) (a .assumedFalse)) 0 (not-false _ (four .0));
-      joined = bytes-joined K (a .bytes) n (sym (passes (countsOf r) (faultTest r) _ (Passed n) (read .0) (passes (countsOf r) (unjoinedTest (a .bytes) r) [] (Passed n) (twelve .0) (sym (thirteen .1)))));
+      joined = bytes-joined K (a .bytes) n (check-bytes K a n h);
       trueThere = subst (λ x. a .assumedTrue < 2 ^ x .atoms) e (ltb-true (a .assumedTrue) (2 ^ countsOf r .atoms) (there .0));
       falseThere = subst (λ x. a .assumedFalse < 2 ^ x .atoms) e (ltb-true (a .assumedFalse) (2 ^ countsOf r .atoms) (there .1));
     }
