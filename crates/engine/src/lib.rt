@@ -138,7 +138,7 @@ fn decide_in(
 }
 
 // Yes with the mask of the interpretation of n atoms that has the value.
-fn shown(o: Outcome, n: u64) -> Outcome
+pub fn shown(o: Outcome, n: u64) -> Outcome
     requires { ⌜ n ≤ atomLimit ⌝ }
     ensures { λ r. ⌜ r ≡ shownOutcome n o ⌝ }
 {
@@ -150,7 +150,7 @@ fn shown(o: Outcome, n: u64) -> Outcome
 }
 
 // Yes without a mask.
-fn unshown(o: Outcome) -> Outcome
+pub fn unshown(o: Outcome) -> Outcome
     ensures { λ r. ⌜ r ≡ plainOutcome o ⌝ }
 {
     match o {
@@ -161,7 +161,7 @@ fn unshown(o: Outcome) -> Outcome
 }
 
 // What a check refuses.
-fn refusal(r: Checked) -> Outcome
+pub fn refusal(r: Checked) -> Outcome
     ensures { λ o. ⌜ o ≡ refusalOutcome r ⌝ }
 {
     match r {
@@ -171,7 +171,7 @@ fn refusal(r: Checked) -> Outcome
 }
 
 // As decide, over tables of pairs with values, in arrays made here.
-fn decide_pairs(
+pub fn decide_pairs(
     s: &[u8],
     ws: &mut [u32],
     w: usize,
@@ -209,7 +209,7 @@ fn decide_pairs(
 }
 
 // As decide, over plain tables, which carry nothing, in arrays made here.
-fn decide_plain(
+pub fn decide_plain(
     s: &[u8],
     ws: &mut [u32],
     p: usize,

@@ -1,0 +1,60 @@
+// The calls of the library, as the definitions say them. None has a `requires`.
+use checks::checking::check;
+use expression::Checked;
+use expression::Outcome;
+use expression::limits::DEPTH_LIMIT;
+ghost use mathlib.Core.Path.{_≡_};
+ghost use lib.ListN.{length};
+ghost use Rattle.labels.specs.Labels.{labelCount};
+ghost use Rattle.decisions.specs.Outcomes.{GroundedOutcome, PlainOutcome};
+ghost use Rattle.engine.specs.Engine.{wordsAfter};
+ghost use Rattle.calls.specs.Calls.{request};
+
+// The words that tables need (01: 3, cramped).
+const AREAS: usize = DEPTH_LIMIT as usize + 1;
+
+// The grounded decision. The verdict is the definition's; yes shows an answer set of the expression's rules that obeys the assumptions, and no says that
+// there is none (demand 3). The workspace is untouched where a check refuses, else its needed words are zero.
+pub fn grounded(
+    s: &[u8],
+    p: u64,
+    g: u64,
+    assumed_true: u64,
+    assumed_false: u64,
+    ws: &mut [u32],
+) -> Outcome
+    ensures { λ r. ⌜ GroundedOutcome labelCount (request (now (s .entry)) p g (length (now (ws .entry))) «assumed_true» «assumed_false») r ⌝ }
+    ensures { λ r. ⌜ now (ws .exit) ≡ wordsAfter labelCount (request (now (s .entry)) p g (length (now (ws .entry))) «assumed_true» «assumed_false») (now (ws .entry)) ⌝ }
+{
+    let r = check(s, p, g, ws.len(), assumed_true, assumed_false);
+    let Checked::Passed(n) = r else {
+        return engine::refusal(r);
+    };
+    let limit = p as usize;
+    let w = g as usize + 2;
+    let need = AREAS * (limit * w);
+    let o = engine::decide_pairs(s, ws, w, limit, need, assumed_true, assumed_false);
+    engine::shown(o, n.atoms)
+}
+
+// The plain decision: the same of models, and yes shows none. A plain table's rows have no subsets, but the words needed are the same.
+pub fn plain(
+    s: &[u8],
+    p: u64,
+    g: u64,
+    assumed_true: u64,
+    assumed_false: u64,
+    ws: &mut [u32],
+) -> Outcome
+    ensures { λ r. ⌜ PlainOutcome labelCount (request (now (s .entry)) p g (length (now (ws .entry))) «assumed_true» «assumed_false») r ⌝ }
+    ensures { λ r. ⌜ now (ws .exit) ≡ wordsAfter labelCount (request (now (s .entry)) p g (length (now (ws .entry))) «assumed_true» «assumed_false») (now (ws .entry)) ⌝ }
+{
+    let r = check(s, p, g, ws.len(), assumed_true, assumed_false);
+    let Checked::Passed(_) = r else {
+        return engine::refusal(r);
+    };
+    let limit = p as usize;
+    let need = AREAS * (limit * (g as usize + 2));
+    let o = engine::decide_plain(s, ws, limit, need, assumed_true, assumed_false);
+    engine::unshown(o)
+}
