@@ -69,7 +69,7 @@ conclude-walk {A = A} {h = h} M o f y cs =
 
 -- ---- a table of triples as pairs without subsets: nothing exceeds the limit of subsets, and what is accepted is accepted
 
-single-fault : (P G : ℕ) (t : List ℕ) → pairsFault P G (map single t) ≡ plainFault P t
+pub single-fault : (P G : ℕ) (t : List ℕ) → pairsFault P G (map single t) ≡ plainFault P t
 unfolding pairsFault plainFault some
 single-fault P G t = ap₂ (λ b n. cond b subsetsFull (cond (ltb P n) plansFull 0)) (none t) (length-map t single)
   where

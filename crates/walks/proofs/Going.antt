@@ -31,7 +31,7 @@ use Rattle.stacks.specs.Stacks.{Counted}
 use Rattle.stacks.proofs.Clearing.{holds-counted}
 use Rattle.operations.specs.Operations.{Meets}
 use Rattle.walks.specs.Walks.{Stands, Advanced, before, walkTo}
-use Rattle.walks.proofs.Steps.{passes-meets, act-deep, walk-nil, walk-on, walk-stops, before-nil, before-more, before-none, fault-none, fault-some}
+use Rattle.walks.proofs.Steps.{passes-meets, act-deep, some-after, walk-nil, walk-on, walk-stops, before-nil, before-more, before-none, fault-none, fault-some}
 
 module _ (kind : Tables) (carry : Carry) (o : Assumptions) (w p stop : ℕ) (s : List ℕ) where
   abbrev B : Operations (List Entry)
@@ -50,6 +50,7 @@ module _ (kind : Tables) (carry : Carry) (o : Assumptions) (w p stop : ℕ) (s :
     pub stack : List (List Entry)
     pub stands : Stands carry d w p stack beyond ws vals counts
     pub deep : length stack ≡ n .depth
+    pub begun : 0 < at → 1 ≤ n .depth
     pub leads : walk B f (n .atoms) (before stop rest) stack ≡ walkTo kind carry o w p stop s
 
   pub going-start : (z : Counts) → Joined labelCount s z → (beyond ws vals counts : List ℕ) → Stands carry d w p [] beyond ws vals counts → (n : Counts) → n ≡ noCounts → Going z beyond 0 n ws vals counts
@@ -60,6 +61,7 @@ module _ (kind : Tables) (carry : Carry) (o : Assumptions) (w p stop : ℕ) (s :
     stack = [];
     stands = h;
     deep = rw e;
+    begun = λ l. absurd (omega arith);
     leads = rw (e, j .read);
   }
 
@@ -105,6 +107,7 @@ module _ (kind : Tables) (carry : Carry) (o : Assumptions) (w p stop : ℕ) (s :
                 stack = after;
                 stands = a .stands few;
                 deep = rw (same, deeper) (act-deep B (n .atoms) d c (g .stack) (rw (g .deep) meets) ∙ ap (λ k. depthAfter k c) (g .deep));
+                begun = λ l. rw (same, deeper) (some-after d (n .depth) (n .atoms) c meets);
                 leads = rw (same, atoms) (sym (walk-on B f (n .atoms) at c (before stop (N .rest)) (g .stack) (sym (a .fault) ∙ fault-none p r few)) ∙ from-here);
               }
 

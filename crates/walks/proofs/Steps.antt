@@ -53,6 +53,15 @@ act-deep B a d (Relabel i j) (y ∷ ys) m = refl
 act-deep B a d (Connect k i j) [] m = absurd (omega arith)
 act-deep B a d (Connect k i j) (y ∷ ys) m = refl
 
+-- a command leaves a table at least
+pub some-after : (d t a : ℕ) (c : Command) → Meets c d t a → 1 ≤ depthAfter t c
+unfolding depthAfter
+some-after d t a (Atom g) m = omega arith
+some-after d t a (Rule g) m = omega arith
+some-after d t a Union m = omega arith
+some-after d t a (Relabel i j) m = m
+some-after d t a (Connect k i j) m = m
+
 -- ---- the walk
 
 pub walk-nil : {X : Type 0} (B : Operations (List X)) (f : List X → ℕ) (n : ℕ) (ts : List (List X)) → walk B f n [] ts ≡ walked ts

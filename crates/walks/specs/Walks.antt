@@ -42,9 +42,9 @@ before stop (c ∷ cs) = cond (ltb (c .place) stop) (c ∷ before stop cs) []
 unfoldable pub walkTo : Tables → Carry → Assumptions → ℕ → ℕ → ℕ → List ℕ → Walked Entry
 walkTo kind carry o w p stop s = walk (tables (tableAlgebra kind carry) o) (λ t. pairsFault p (w - 2) (pairsOf t)) 0 (before stop (commandsIn (reading labelCount s))) []
 
--- what a walk in words answers: where the definition stops, how many tables stand there; or how many it leaves, at the end one
+-- what a walk in words answers: where the definition stops, how many tables stand there; or how many it leaves: one at the end, and one at least after any command
 abbrev pub Reaches : Tables → Carry → Assumptions → ℕ → ℕ → ℕ → ℕ → List ℕ → List ℕ → List ℕ → List ℕ → List ℕ → Reached → Type 0
 Reaches kind carry o d w p stop s beyond ws vals counts (Stopped f at t) =
     (walkTo kind carry o w p stop s ≡ stopped f at) × ((ts : List (List Pair)) × Counted d w p t ts beyond counts ws)
 Reaches kind carry o d w p stop s beyond ws vals counts (Through t) =
-    (us : List (List Entry)) × (walkTo kind carry o w p stop s ≡ walked us) × Stands carry d w p us beyond ws vals counts × (length us ≡ t) × (stop ≡ length s → t ≡ 1)
+    (us : List (List Entry)) × (walkTo kind carry o w p stop s ≡ walked us) × Stands carry d w p us beyond ws vals counts × (length us ≡ t) × (stop ≡ length s → t ≡ 1) × (0 < stop → 1 ≤ t)

@@ -210,7 +210,7 @@ returns-3 c =
     let o = byMasks (s .args .assumed-true) (s .args .assumed-false) in
     λ beyond h.
     let g = going (c .before) beyond h in
-    (g .stack, going-ends (s .args .kind) (s .args .carry) o (s .args .w) (s .args .p) (s .args .stop) (s .args .s .now) g (s .pre .0 .6) (omega (arith, c .loop-test .left)), g .stands, g .deep, λ e. ends-joined (s .args .kind) (s .args .carry) o (s .args .w) (s .args .p) (s .args .stop) (s .args .s .now) g (s .pre .0 .6) (bytes-joined labelCount (s .args .s .now) (s .pre .1 .1 .0 .0) (s .pre .1 .1 .0 .1) .joined) (omega (arith, c .loop-test .left)) e)
+    (g .stack, going-ends (s .args .kind) (s .args .carry) o (s .args .w) (s .args .p) (s .args .stop) (s .args .s .now) g (s .pre .0 .6) (omega (arith, c .loop-test .left)), g .stands, g .deep, λ e. ends-joined (s .args .kind) (s .args .carry) o (s .args .w) (s .args .p) (s .args .stop) (s .args .s .now) g (s .pre .0 .6) (bytes-joined labelCount (s .args .s .now) (s .pre .1 .1 .0 .0) (s .pre .1 .1 .0 .1) .joined) (omega (arith, c .loop-test .left)) e, λ l. g .begun (omega (arith, c .loop-test .left)))
 
 pub walk-spec : {M : Type 1} → statement M
 walk-spec =
