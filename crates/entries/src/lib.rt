@@ -113,7 +113,7 @@ pub fn insert_entry(
     requires { ⌜ Readable (now row) × (length (now row) ≡ w) ⌝ }
     ensures { λ r. ⌜ Entered carry w p m r (record { item = pairOf (now (row .entry)); value = v }) (now (area .entry)) (now (index .entry)) (now (vals .entry)) (now (area .exit)) (now (index .exit)) (now (vals .exit)) ⌝ }
 {
-    let r = rows::insert_row(area, index, w, p, m, row);
+    let r = indexes::insert_row(area, index, w, p, m, row);
     match r {
         Placed::New(k) => {
             push_value(vals, carry, p, m, k, v);

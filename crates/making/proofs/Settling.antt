@@ -11,8 +11,7 @@ use Rattle.rows.specs.Parts.{part, put, zeros}
 use Rattle.rows.specs.Rows.{tableOf, sortedOf, Indexed}
 use Rattle.rows.proofs.Parts.{part-long, part-low, part-high, put-put, put-part, put-comm}
 use Rattle.rows.proofs.Tables.{length-table}
-use Rattle.rows.proofs.Indexing.{sorted-long}
-use Rattle.rows.proofs.Writing.{sorted-fit}
+use Rattle.rows.proofs.Indexing.{sorted-long, sorted-fit}
 use Rattle.entries.specs.declared.Carry.{Carry}
 use Rattle.entries.specs.Carries.{Entry, valuesIn, Kept}
 use Rattle.entries.specs.Entries.{withValues, entriesOf}

@@ -57,8 +57,8 @@ pub fn settle(
 {
     if p < r {
         let area = p * w;
-        rows::clear_rows(&mut ws[to..to + area], w, p, 0, p);
+        areas::clear_rows(&mut ws[to..to + area], w, p, 0, p);
     } else {
-        rows::finish_table(ws, row, index, w, p, r, n, at, to);
+        areas::finish_table(ws, row, index, w, p, r, n, at, to);
     }
 }

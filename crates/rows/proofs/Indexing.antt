@@ -10,7 +10,7 @@ use borrow.Rule.Slice.PartMut.{putMid, midOf, post-is}
 use Rattle.lists.specs.declared.Order.the-variants.{Same}
 use Rattle.lists.specs.Lists.{All}
 use Rattle.lists.specs.Sorted.{compareLists, second, rank, Rising}
-use Rattle.lists.proofs.Members.{all-append, all-get, all-take, all-drop, map-drop}
+use Rattle.lists.proofs.Members.{all-append, all-get, all-take, all-drop, all-map, map-drop}
 use Rattle.lists.proofs.Comparisons.{lists-lawful}
 use Rattle.lists.proofs.Canon.{rising-insert}
 use Rattle.lists.proofs.Ranks.{rank-le, insert-absent}
@@ -103,6 +103,11 @@ module _ {w p m : ℕ} {area index : List ℕ} (h : Indexed w p m area index) wh
 
   pub slot-fits : (i : ℕ) → i < m → Fit w (pairOf (slot w i area))
   slot-fits i l = subst (Fit w) (sym (pair-row w (getD (h .arrived) i []) (fit-at i l)) ∙ ap pairOf (sym (row-at i l))) (fit-at i l)
+
+  -- the pairs fit their rows
+  pub sorted-fit : All (Fit w) (sortedOf w m area index)
+  unfolding sortedOf
+  sorted-fit = all-map (λ i. i < m) (Fit w) (λ i. pairOf (slot w i area)) slot-fits (take m index) (h .places)
 
   pub slot-within : (i : ℕ) → i < m → i * w + w ≤ length area
   slot-within i l = let k = row-within i p w (omega (arith, h .room)) in omega (arith, area-long)

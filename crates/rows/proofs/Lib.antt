@@ -4,4 +4,3 @@ pub mod Parts
 pub mod Single
 pub mod Tables
 pub mod Indexing
-pub mod Writing

@@ -57,6 +57,6 @@ pub fn clear_tables(ws: &mut [u32], counts: &[u64], w: usize, p: usize, t: usize
         let area = p * w;
         let at = i * area;
         let n = counts[i] as usize;
-        rows::clear_rows(&mut ws[at..at + area], w, p, 0, n);
+        areas::clear_rows(&mut ws[at..at + area], w, p, 0, n);
     }
 }

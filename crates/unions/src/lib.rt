@@ -176,7 +176,7 @@ pub fn unite_tables(
     making::settle(ws, row, index, w, p, r, na, a, to);
     if r <= p {
         let area = p * w;
-        rows::clear_rows(&mut ws[b..b + area], w, p, 0, nb);
+        areas::clear_rows(&mut ws[b..b + area], w, p, 0, nb);
     }
     r
 }

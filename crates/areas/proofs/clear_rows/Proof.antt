@@ -1,4 +1,4 @@
--- `rows::clear_rows`: the first i rows stand.
+-- `areas::clear_rows`: the first i rows stand.
 use mathlib.Core.Path.{_≡_, refl, sym, ap, _∙_}
 use mathlib.Core.List.{List}
 use Prim.Native.Nat.{ℕ, suc, _+_, _-_, _*_, _≤_, _<_}
@@ -6,12 +6,12 @@ use lib.ListN.{length, take, drop, getD}
 use lib.Seq.{take-all}
 use borrow.Rule.Slice.PartMut.{same-len-mid}
 use Rattle.tables.specs.Definitions.{Pair}
 use Rattle.rows.specs.Parts.{part, put, zeros}
 use Rattle.rows.specs.Rows.{tableOf, rowsIn, IsRow, slot}
 use Rattle.rows.proofs.Single.{row-long}
 use Rattle.rows.proofs.Tables.{row-within, length-rowsIn, left-long, left-row, left-less}
-use Rattle.rows.proofs.clear_rows.Statement.{statement}
-use Rattle.rows.proofs.clear_rows.Tie as tie
+use Rattle.areas.proofs.clear_rows.Statement.{statement}
+use Rattle.areas.proofs.clear_rows.Tie as tie
 use native.Mathlib.Omega.{arith}
 
 abbrev Inv-loop : tie.InvT-loop

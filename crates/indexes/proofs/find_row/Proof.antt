@@ -1,4 +1,4 @@
--- `rows::find_row`: the rank lies between lo and hi.
+-- `indexes::find_row`: the rank lies between lo and hi.
 use mathlib.Core.Path.{_≡_, sym, _∙_}
 use mathlib.Core.Logic.{⊎-elim}
 use mathlib.Core.List.{List, []}
@@ -8,10 +8,10 @@ use Rattle.lists.specs.Sorted.{compareLists, rank}
 use Rattle.lists.proofs.Comparisons.{lists-lawful}
 use Rattle.lists.proofs.Ranks.{rank-le, rank-up, rank-down, less≢more, same≢more}
 use Rattle.candidates.specs.Candidates.{pairOf}
 use Rattle.rows.specs.Rows.{sortedOf, Indexed}
 use Rattle.rows.proofs.Indexing.{sorted-long, place-lt, slot-readable, slot-within, sorted-at}
-use Rattle.rows.proofs.find_row.Statement.{statement}
-use Rattle.rows.proofs.find_row.Tie as tie
+use Rattle.indexes.proofs.find_row.Statement.{statement}
+use Rattle.indexes.proofs.find_row.Tie as tie
 use borrow.Author.Needs.{needs}
 use native.Mathlib.Omega.{arith}
 

@@ -1,4 +1,4 @@
--- `rows::write_rows`: the first i rows are written.
+-- `areas::write_rows`: the first i rows are written.
 use mathlib.Core.Path.{_≡_, refl, sym, ap, _∙_}
 use mathlib.Core.List.{List, [], _++_}
 use Prim.Native.Nat.{ℕ, suc, _+_, _-_, _*_, _≤_, _<_}
@@ -6,15 +6,15 @@ use lib.ListN.{length, take, drop, getD}
 use lib.Seq.{take-all}
 use borrow.Rule.Slice.PartMut.{same-len-mid}
 use Rattle.candidates.specs.Candidates.{pairOf, Readable}
 use Rattle.rows.specs.Parts.{part, put}
 use Rattle.rows.specs.Rows.{tableOf, rowOf, rowsIn, IsRow, slot, sortedOf, Indexed}
 use Rattle.rows.proofs.Parts.{part-long}
 use Rattle.rows.proofs.Single.{row-long}
 use Rattle.rows.proofs.Tables.{row-within}
 use Rattle.rows.proofs.Indexing.{sorted-long, sorted-at, place-lt, slot-readable}
-use Rattle.rows.proofs.Writing.{written-none, source-is, target-row, written-more}
-use Rattle.rows.proofs.write_rows.Statement.{statement}
-use Rattle.rows.proofs.write_rows.Tie as tie
+use Rattle.areas.proofs.Writing.{written-none, source-is, target-row, written-more}
+use Rattle.areas.proofs.write_rows.Statement.{statement}
+use Rattle.areas.proofs.write_rows.Tie as tie
 use native.Mathlib.Omega.{arith}
 
 abbrev Inv-loop : tie.InvT-loop

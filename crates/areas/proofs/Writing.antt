@@ -7,19 +7,13 @@ use native.Mathlib.Omega.{arith}
 use lib.ListN.{length, take, drop, getD, length-append, length-drop}
 use lib.Seq.{take-all, length-take-le, take-at, drop-append-add, drop-drop, take-suc}
 use Rattle.lists.specs.Lists.{All}
-use Rattle.lists.proofs.Members.{all-append, all-take, all-drop, all-map}
+use Rattle.lists.proofs.Members.{all-append, all-take, all-drop}
 use Rattle.tables.specs.Definitions.{Pair}
-use Rattle.candidates.specs.Candidates.{pairOf}
 use Rattle.rows.specs.Parts.{part, put, Apart}
 use Rattle.rows.specs.Rows.{rowOf, Fit, tableOf, rowsIn, IsRow, Rows, slot, sortedOf, Indexed}
 use Rattle.rows.proofs.Parts.{part-put, part-part, part-high, put-inner, put-part, put-put, put-long}
 use Rattle.rows.proofs.Tables.{row-within, length-table, slot-row, table-put, length-rowsIn, rows-of}
-use Rattle.rows.proofs.Indexing.{sorted-long, slot-fits}
-
--- the pairs of a table that is being made fit their rows
-pub sorted-fit : {w p m : ℕ} {area index : List ℕ} → Indexed w p m area index → All (Fit w) (sortedOf w m area index)
-unfolding sortedOf
-sorted-fit {w} {p} {m} {area} {index} h = all-map (λ i. i < m) (Fit w) (λ i. pairOf (slot w i area)) (λ i l. slot-fits h i l) (take m index) (h .places)
+use Rattle.rows.proofs.Indexing.{sorted-long, sorted-fit}
 
 module _ (w p m n to from : ℕ) (ws index : List ℕ) (a : Apart to from (p * w) (length ws)) (g : 2 ≤ w) (t : Rows w p n (part to (p * w) ws)) (h : Indexed w p m (part from (p * w) ws) index) where
   abbrev new : List Pair

@@ -1,13 +1,13 @@
--- `rows::finish_table`: the rows are written, the others cleared.
+-- `areas::finish_table`: the rows are written, the others cleared.
 use mathlib.Core.Path.{_≡_, refl, _∙_}
 use Prim.Native.Nat.{_*_}
 use Rattle.rows.proofs.Parts.{span}
 use Rattle.rows.specs.Parts.{part, put, zeros}
 use Rattle.rows.specs.Rows.{tableOf, sortedOf}
-use Rattle.rows.proofs.Writing.{target-rows, target-cleared, source-rows}
+use Rattle.areas.proofs.Writing.{target-rows, target-cleared, source-rows}
 use borrow.Author.Needs.{needs}
-use Rattle.rows.proofs.finish_table.Statement.{statement}
-use Rattle.rows.proofs.finish_table.Tie as tie
+use Rattle.areas.proofs.finish_table.Statement.{statement}
+use Rattle.areas.proofs.finish_table.Tie as tie
 use native.Mathlib.Omega.{arith}
 
 abbrev start : tie.After-write-rows → tie.Start

@@ -1,4 +1,4 @@
--- `rows::insert_row`: the pair is there at its rank, or goes in there.
+-- `indexes::insert_row`: the pair is there at its rank, or goes in there.
 use mathlib.Core.Path.{_≡_, refl, sym, ap, _∙_}
 use mathlib.Core.Logic.{⊎-elim}
 use mathlib.Core.List.{List, []}
@@ -9,14 +9,14 @@ use Rattle.lists.proofs.Order.{the-type}
 use Rattle.lists.specs.declared.Order.the-variants.{Same}
 use Rattle.lists.specs.Sorted.{compareLists, rank}
 use Rattle.candidates.specs.Candidates.{pairOf}
 use Rattle.rows.specs.Rows.{sortedOf, slot, rowOf}
 use Rattle.rows.specs.Inserted.{There}
 use Rattle.rows.proofs.Single.{row-long, read-fits}
 use Rattle.rows.proofs.Tables.{row-within}
 use Rattle.rows.proofs.Indexing.{area-long, place-lt, slot-readable, slot-within, rank-low, there-named, named-there, free-row, free-within, row-inserted}
 use borrow.Author.Needs.{needs}
-use Rattle.rows.proofs.insert_row.Statement.{statement}
-use Rattle.rows.proofs.insert_row.Tie as tie
+use Rattle.indexes.proofs.insert_row.Statement.{statement}
+use Rattle.indexes.proofs.insert_row.Tie as tie
 use native.Mathlib.Omega.{arith}
 
 abbrev start : tie.After-find-row → tie.Start
