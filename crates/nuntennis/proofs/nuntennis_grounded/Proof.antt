@@ -1,5 +1,5 @@
 -- `nuntennis_grounded`: the slice is short, or `calls::grounded` decides and its outcome is written.
-use mathlib.Core.Path.{_≡_, refl}
+use mathlib.Core.Path.{refl}
 use lib.ListN.{length}
 use borrow.Author.Needs.{needs}
 use borrow.Author.Tests.{lt-ltb, le-ltb}

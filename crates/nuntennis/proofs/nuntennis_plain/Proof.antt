@@ -1,5 +1,5 @@
 -- `nuntennis_plain`: the slice is short, or `calls::plain` decides and its outcome is written.
-use mathlib.Core.Path.{_≡_, refl}
+use mathlib.Core.Path.{refl}
 use lib.ListN.{length}
 use borrow.Author.Needs.{needs}
 use borrow.Author.Tests.{lt-ltb, le-ltb}
