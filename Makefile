@@ -1,9 +1,11 @@
 .PHONY: test check
 
-# The gate: every crate proved from nothing, every must-fail edit refused, every program run.
-test:
+# The gate: the library's C tests, then every crate proved from nothing, every must-fail edit refused, every program run.
+test: c-test
 	@rt ci
 
-# The same without starting from nothing and without the must-fail edits.
+# The same proofs without starting from nothing, without the must-fail edits and without the C tests.
 check:
 	@rt check
+
+include c.mk

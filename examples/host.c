@@ -1,4 +1,4 @@
-// A host: reads a sheet, draws a progress bar by stepping, and says what the engine decides.
+// A host: reads a sheet and says what the engine decides; with a progress bar by stepping, once the library has the walk.
 //
 //     host [-p PLANS] [-g SUBSETS] [-i COPIES] [-o COPIES] SHEET
 //
@@ -56,8 +56,9 @@ static void print_refusal(const sheet_file *f, const uint64_t *answer)
     if (answer[1] > NUNTENNIS_CLASH) point_at(f->sheet, f->sheet_len, (size_t)answer[2]);
 }
 
-// ---- the walk with its bar
+// ---- the decision, with a bar by the walk
 
+#ifdef NUNTENNIS_HAS_WALK
 static void draw(uint64_t place, size_t sheet_len)
 {
     enum { WIDTH = 40 };
@@ -69,7 +70,7 @@ static void draw(uint64_t place, size_t sheet_len)
 }
 
 // Steps to the end and reads the verdict. On a terminal the bar is drawn at each step.
-static void walk(const sheet_file *f, uint32_t *workspace, size_t words, uint64_t *answer)
+static void decide(const sheet_file *f, uint32_t *workspace, size_t words, uint64_t *answer)
 {
     nuntennis_record record;
     int is_terminal = isatty(STDOUT_FILENO);
@@ -84,6 +85,12 @@ static void walk(const sheet_file *f, uint32_t *workspace, size_t words, uint64_
     if (answer[0] == NUNTENNIS_ENDED)
         nuntennis_verdict(&record, workspace, words, f->sheet, f->sheet_len, f->plan_limit, f->subset_limit, f->pins_in, f->pins_out, answer, 3);
 }
+#else
+static void decide(const sheet_file *f, uint32_t *workspace, size_t words, uint64_t *answer)
+{
+    nuntennis_grounded(f->sheet, f->sheet_len, f->plan_limit, f->subset_limit, f->pins_in, f->pins_out, workspace, words, answer, 3);
+}
+#endif
 
 // ---- what it says
 
@@ -174,7 +181,7 @@ int main(int arguments, char **argument)
         return 3;
     }
     print_question(path, &f);
-    walk(&f, workspace, words, answer);
+    decide(&f, workspace, words, answer);
     int status = say(&f, workspace, words, answer);
     free(workspace);
     return status;

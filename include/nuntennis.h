@@ -27,13 +27,13 @@
  * with a barring copy in the plan are struck out and the other barring sets are emptied. In other words: it is an answer set.
  *
  *
- * PARAMETERS THAT ALL CALLS SHARE
+ * PARAMETERS
  *
  *   sheet, sheet_len           the bytes of the sheet; only read
  *   plan_limit  (P)            the most pairs that a table may have, 1 to 1024
  *   subset_limit (G)           the most subsets that a pair may have, 1 to 1024
  *   pins_in, pins_out          bit c is copy c: the plan has every copy of pins_in and none of pins_out
- *   workspace, workspace_len   lent words, at least NUNTENNIS_WORKSPACE_WORDS(P, G); they may hold anything before a decision or report
+ *   workspace, workspace_len   lent words, at least NUNTENNIS_WORKSPACE_WORDS(P, G); they may hold anything before a call
  *   answer, answer_len         at least three words: kind, value, place (see ANSWERS)
  *
  * A length counts elements, not bytes. A pointer is not NULL and is aligned for its type, also where its length is 0. The buffers of
@@ -45,14 +45,10 @@
  *
  * ANSWERS
  *
- *   answer[0]  kind       answer[1]  value                     answer[2]  place           given by
- *   0  no                 0                                    0                          grounded, plain, verdict
- *   1  yes                grounded: the plan, bit c is copy c   0                          grounded, plain, verdict
- *                         plain, verdict: 0
- *   1  reported           entries written                      words written              report, plain_report
- *   2  refused            the refusal's number                 the refusal's place        all
- *   3  moved              0                                    0                          start, step
- *   4  ended              0                                    0                          step
+ *   answer[0]  kind       answer[1]  value                                answer[2]  place
+ *   0  no                 0                                               0
+ *   1  yes                grounded: the plan, bit c is copy c; plain: 0   0
+ *   2  refused            the refusal's number                            the refusal's place
  *
  * Any grounded plan that obeys the pins may be the plan of a yes; no bit beyond the sheet's copies is set in it.
  *
@@ -73,30 +69,22 @@
  *   11  bare           21 with under two parts; 31, 41, 42, 43 with none       offset of that command
  *   12  unjoined       not exactly one part at the end                         sheet_len
  *   13  absent         a pin on a copy that the sheet lacks, bit 63 included   sheet_len
- *   14  offset         reports: no command starts at the offset asked          the offset asked
  *   15  subsets full   a pair of the table here has over G subsets             offset of the command that makes the table
  *   16  plans full     the table here has over P entries                       offset of the command that makes the table
- *   17  report short   report_len is under the words needed                    the offset asked
- *   18  record         step, verdict: record or workspace lack the form that   the record's place
- *                      ONE COMMAND A CALL says; verdict: not at the end yet
  *
  * They are tested in this order: 1 to 4; then the whole sheet is read, and the first faulty command gives the lowest of 5 to 11 that
- * applies to it; then 12, 13, and 14 or 18; then the tables command by command, at each command 15 before 16; then 17. plain and
- * plain_report never give 15.
+ * applies to it; then 12, 13; then the tables command by command, at each command 15 before 16. plain never gives 15. The numbers 14,
+ * 17 and 18 are kept for calls to come.
+ *
+ * A table here is the one after a command (document 01, Tables): of pairs for grounded, of triples for plain.
  *
  *
- * WHAT A CALL LEAVES IN THE BUFFERS (NEED is NUNTENNIS_WORKSPACE_WORDS(P, G))
+ * WHAT A CALL LEAVES IN THE WORKSPACE (NEED is NUNTENNIS_WORKSPACE_WORDS(P, G))
  *
- *   Outcome                               first NEED words of workspace   report                record
- *   decision, report: yes, no, reported   all zero                        only words written    -
- *   decision, report: 15, 16, 17          all zero                        unchanged             -
- *   start: moved                          all zero                        -                     place 0, no tables, all counts 0
- *   step: moved                           the tables after the command    -                     the state after the command
- *   step: ended, 15, 16                   unchanged                       -                     unchanged
- *   verdict                               unchanged                       -                     unchanged
- *   any call: 1 to 14, 18                 unchanged                       unchanged             unchanged
+ *   yes, no, 15, 16    the first NEED words are zero
+ *   1 to 13            unchanged
  *
- * Words of workspace past the first NEED are never read or written. Words of report are only written, and none past those of the report.
+ * Words of workspace past the first NEED are never read or written.
  */
 #ifndef NUNTENNIS_H
 #define NUNTENNIS_H
@@ -115,23 +103,16 @@ extern "C" {
 #define NUNTENNIS_PARTS 8           /* the most parts at a time */
 #define NUNTENNIS_LIMIT 1024        /* the most that P and G may be */
 #define NUNTENNIS_ANSWER_WORDS 3
-#define NUNTENNIS_STACK_BYTES 131072
+#define NUNTENNIS_STACK_BYTES 98304
 
 /* Words of 32 bits that a call needs as workspace, for P and G from 1 to 1024: a constant expression if they are. */
 #define NUNTENNIS_WORKSPACE_WORDS(P, G) ((size_t)9 * (size_t)(P) * ((size_t)(G) + 2))
-
-/* Words of 32 bits that no report is longer than. */
-#define NUNTENNIS_REPORT_WORDS(P, G) ((size_t)(P) * ((size_t)(G) + 2))
-#define NUNTENNIS_PLAIN_REPORT_WORDS(P) ((size_t)(P))
 
 /* answer[0] */
 enum {
     NUNTENNIS_NO = 0,
     NUNTENNIS_YES = 1,
-    NUNTENNIS_REPORTED = 1,
-    NUNTENNIS_REFUSED = 2,
-    NUNTENNIS_MOVED = 3,
-    NUNTENNIS_ENDED = 4
+    NUNTENNIS_REFUSED = 2
 };
 
 /* answer[1] where answer[0] is NUNTENNIS_REFUSED */
@@ -149,11 +130,8 @@ enum {
     NUNTENNIS_BARE = 11,
     NUNTENNIS_UNJOINED = 12,
     NUNTENNIS_ABSENT = 13,
-    NUNTENNIS_OFFSET = 14,
     NUNTENNIS_SUBSETS_FULL = 15,
-    NUNTENNIS_PLANS_FULL = 16,
-    NUNTENNIS_REPORT_SHORT = 17,
-    NUNTENNIS_RECORD = 18
+    NUNTENNIS_PLANS_FULL = 16
 };
 
 /*
@@ -186,6 +164,15 @@ uint64_t nuntennis_plain(const uint8_t *sheet, size_t sheet_len,
                          uint64_t *answer, size_t answer_len);
 
 /*
+ * ---- NOT IN THIS LIBRARY YET ----
+ *
+ * From here to the end stand calls that are planned. The archive does not have them, this header does not declare them, and their text
+ * promises nothing until then: each block will be compiled, and its rows will move up into the manual, when its macro
+ * (NUNTENNIS_HAS_REPORT, NUNTENNIS_HAS_WALK) is defined here. Do not define them yourself: such a call can not be linked.
+ */
+#ifdef NUNTENNIS_HAS_REPORT
+
+/*
  * REPORTS
  *
  * The table after the command that starts at byte `asked`, that is the table of the part that this command leaves newest. The whole
@@ -202,7 +189,23 @@ uint64_t nuntennis_plain(const uint8_t *sheet, size_t sheet_len,
  *
  * For the sheet of the example above and asked = 5 (its link) the pair report is the five words 1 1 131328 131328 0, and the answer is
  * 1, 2 entries, 5 words.
+ *
+ * Answer: 1 reported, entries written, words written; or 2 refused.
+ *
+ *   No. Word           Given when                                              Place
+ *   14  offset         no command starts at the offset asked                   the offset asked
+ *   17  report short   report_len is under the words needed                    the offset asked
+ *
+ * 14 is tested after 13, 17 after the tables. plain_report never gives 15. 1 to 14 leave all buffers unchanged; after any other outcome
+ * the first NEED words of workspace are zero. Words of report are only written, none past those of the report, and none with 17.
  */
+
+/* Words of 32 bits that no report is longer than. */
+#define NUNTENNIS_REPORT_WORDS(P, G) ((size_t)(P) * ((size_t)(G) + 2))
+#define NUNTENNIS_PLAIN_REPORT_WORDS(P) ((size_t)(P))
+
+enum { NUNTENNIS_REPORTED = 1, NUNTENNIS_OFFSET = 14, NUNTENNIS_REPORT_SHORT = 17 };
+
 uint64_t nuntennis_report(const uint8_t *sheet, size_t sheet_len, size_t asked,
                           uint64_t plan_limit, uint64_t subset_limit, uint64_t pins_in, uint64_t pins_out,
                           uint32_t *workspace, size_t workspace_len,
@@ -214,6 +217,10 @@ uint64_t nuntennis_plain_report(const uint8_t *sheet, size_t sheet_len, size_t a
                                 uint32_t *workspace, size_t workspace_len,
                                 uint32_t *report, size_t report_len,
                                 uint64_t *answer, size_t answer_len);
+
+#endif
+
+#ifdef NUNTENNIS_HAS_WALK
 
 /*
  * ONE COMMAND A CALL
@@ -244,7 +251,16 @@ uint64_t nuntennis_plain_report(const uint8_t *sheet, size_t sheet_len, size_t a
  * nuntennis_start     checks 1 to 13, zeroes the first 9*P*(G+2) words, and makes a record at place 0 with no tables: moved.
  * nuntennis_step      checks 1 to 13, then 18; runs the command at the record's place: moved. At the end: ended. 15 and 16 stay there.
  * nuntennis_verdict   checks 1 to 13, then 18, also where the place is not the end; reads yes or no from the final table.
+ *
+ * Answer: 3 moved, 0, 0 (start, step); 4 ended, 0, 0 (step); 0 or 1, 0, 0 (verdict); or 2 refused. 18, record, has the record's place.
+ *
+ *   Outcome                first NEED words of workspace   record
+ *   start: moved           all zero                        place 0, no tables, all counts 0
+ *   step: moved            the tables after the command    the state after the command
+ *   any other              unchanged                       unchanged
  */
+enum { NUNTENNIS_MOVED = 3, NUNTENNIS_ENDED = 4, NUNTENNIS_RECORD = 18 };
+
 typedef struct nuntennis_record {
     uint64_t place;     /* offset of the next command; sheet_len at the end */
     uint64_t tables;    /* number of tables */
@@ -265,6 +281,8 @@ uint64_t nuntennis_verdict(const nuntennis_record *record, const uint32_t *works
                            const uint8_t *sheet, size_t sheet_len,
                            uint64_t plan_limit, uint64_t subset_limit, uint64_t pins_in, uint64_t pins_out,
                            uint64_t *answer, size_t answer_len);
+
+#endif
 
 #ifdef __cplusplus
 }

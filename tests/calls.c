@@ -3,7 +3,6 @@
 #include "calls.h"
 
 #include "lent.h"
-#include "nuntennis.h"
 
 #include <inttypes.h>
 #include <signal.h>
@@ -16,7 +15,7 @@
 const char *case_name = "";
 uint64_t case_number;
 
-static const char *const names[CALLS] = {"nuntennis_grounded", "nuntennis_plain", "nuntennis_report", "nuntennis_plain_report"};
+static const char *const names[] = {"nuntennis_grounded", "nuntennis_plain", "nuntennis_report", "nuntennis_plain_report"};
 
 // ---- what went wrong
 
@@ -76,7 +75,7 @@ void calls_begin(void)
 {
     sheet_room = lent_new(8192);
     workspace_room = lent_new((NUNTENNIS_WORKSPACE_WORDS(1024, 1024) + 64) * 4);
-    report_room = lent_new((NUNTENNIS_REPORT_WORDS(1024, 1024) + 64) * 4);
+    report_room = lent_new((REPORT_WORDS(1024, 1024) + 64) * 4);
     answer_room = lent_new(8 * 16);
     signal(SIGSEGV, on_fault);
     signal(SIGBUS, on_fault);
@@ -99,12 +98,16 @@ static uint64_t make_call(call c, const oracle_request *r, const buffers *b)
     case CALL_PLAIN:
         return nuntennis_plain(b->sheet, r->sheet_len, r->plan_limit, r->subset_limit, r->pins_in, r->pins_out, b->workspace,
                                r->workspace_len, b->answer, r->answer_len);
+#ifdef NUNTENNIS_HAS_REPORT
     case CALL_REPORT:
         return nuntennis_report(b->sheet, r->sheet_len, r->asked, r->plan_limit, r->subset_limit, r->pins_in, r->pins_out, b->workspace,
                                 r->workspace_len, b->report, r->report_len, b->answer, r->answer_len);
-    default:
+    case CALL_PLAIN_REPORT:
         return nuntennis_plain_report(b->sheet, r->sheet_len, r->asked, r->plan_limit, r->subset_limit, r->pins_in, r->pins_out,
                                       b->workspace, r->workspace_len, b->report, r->report_len, b->answer, r->answer_len);
+#endif
+    default:
+        disagree(names[c], r, "the library has no such call");
     }
 }
 

@@ -1,7 +1,6 @@
 // Sheets too large for the oracle: every word of the archive's answers, reports and walks against the hand-written C.
 #include "calls.h"
 #include "families.h"
-#include "nuntennis.h"
 #include "random.h"
 #include "reference.h"
 
@@ -62,6 +61,7 @@ static void try_call(call c, const oracle_request *r, tally *n)
 
 // ---- a walk: the table that each step makes is the one reported
 
+#ifdef NUNTENNIS_HAS_WALK
 static void compare_newest(const oracle_request *r, const nuntennis_record *record, const uint32_t *found)
 {
     size_t width = r->subset_limit + 2, t = record->tables - 1;
@@ -77,7 +77,7 @@ static void try_walk(oracle_request r, random_source *s, tally *n)
     nuntennis_record record;
     uint64_t answer[3];
     uint32_t *found = malloc(4 * need_of(&r));
-    r.report_len = NUNTENNIS_REPORT_WORDS(r.plan_limit, r.subset_limit);
+    r.report_len = REPORT_WORDS(r.plan_limit, r.subset_limit);
     nuntennis_start(&record, found, need_of(&r), r.sheet, r.sheet_len, r.plan_limit, r.subset_limit, r.pins_in, r.pins_out, answer, 3);
     while (answer[0] == NUNTENNIS_MOVED) {
         r.asked = record.place;
@@ -92,6 +92,13 @@ static void try_walk(oracle_request r, random_source *s, tally *n)
     if (answer[0] != want.kind || !is_same) disagree("a walk", &r, "its end is not the decision's");
     free(found);
 }
+#else
+// The library has no walk yet.
+static void try_walk(oracle_request r, random_source *s, tally *n)
+{
+    (void)r, (void)s, (void)n;
+}
+#endif
 
 // ---- the sheets
 
@@ -107,9 +114,9 @@ static void try_sheet(oracle_request r, random_source *s, tally *n)
     r.workspace_len = need_of(&r);
     try_call(CALL_GROUNDED, &r, n);
     try_call(CALL_PLAIN, &r, n);
-    for (unsigned k = 0; k < 2; k++) {
+    for (unsigned k = 0; HAS_REPORT && k < 2; k++) {
         r.asked = random_start(s, &r);
-        r.report_len = NUNTENNIS_REPORT_WORDS(r.plan_limit, r.subset_limit);
+        r.report_len = REPORT_WORDS(r.plan_limit, r.subset_limit);
         try_call(CALL_REPORT, &r, n);
         try_call(CALL_PLAIN_REPORT, &r, n);
         r.report_len = 0;
@@ -166,7 +173,7 @@ int main(int arguments, char **argument)
     tally n = {0};
     uint64_t sheets = arguments > 1 ? strtoull(argument[1], NULL, 10) : 120;
     workspace = malloc(4 * NUNTENNIS_WORKSPACE_WORDS(1024, 1024));
-    report = malloc(4 * NUNTENNIS_REPORT_WORDS(1024, 1024));
+    report = malloc(4 * REPORT_WORDS(1024, 1024));
     calls_begin();
     try_families(&s, &n);
     case_name = "large random sheet";

@@ -11,7 +11,7 @@
 enum { STACK = 1 << 20, PAINT = 0xA5 };
 
 static instance instances[INSTANCES];
-static uint32_t *workspace, *report;
+static uint32_t *workspace;
 static size_t words;
 
 static void no_call(const instance *x)
@@ -31,6 +31,9 @@ static void call_plain(const instance *x)
     nuntennis_plain(x->sheet, x->sheet_len, x->plan_limit, x->subset_limit, x->pins_in, x->pins_out, workspace, words, answer, 3);
 }
 
+#ifdef NUNTENNIS_HAS_REPORT
+static uint32_t report[NUNTENNIS_REPORT_WORDS(1024, 1024)];
+
 static void call_report(const instance *x)
 {
     uint64_t answer[3];
@@ -44,7 +47,9 @@ static void call_plain_report(const instance *x)
     nuntennis_plain_report(x->sheet, x->sheet_len, x->sheet_len - 3, x->plan_limit, x->subset_limit, x->pins_in, x->pins_out, workspace,
                            words, report, NUNTENNIS_REPORT_WORDS(1024, 1024), answer, 3);
 }
+#endif
 
+#ifdef NUNTENNIS_HAS_WALK
 static void call_walk(const instance *x)
 {
     nuntennis_record record;
@@ -54,6 +59,7 @@ static void call_walk(const instance *x)
         nuntennis_step(&record, workspace, words, x->sheet, x->sheet_len, x->plan_limit, x->subset_limit, x->pins_in, x->pins_out, answer, 3);
     nuntennis_verdict(&record, workspace, words, x->sheet, x->sheet_len, x->plan_limit, x->subset_limit, x->pins_in, x->pins_out, answer, 3);
 }
+#endif
 
 typedef struct { void (*call)(const instance *); const instance *x; } job;
 
@@ -88,12 +94,19 @@ static size_t stack_of(void (*call)(const instance *), const instance *x)
 int main(void)
 {
     static const struct { const char *name; void (*call)(const instance *); } calls[] = {
-        {"grounded", call_grounded}, {"plain", call_plain}, {"report", call_report}, {"plain_report", call_plain_report}, {"walk", call_walk},
+        {"grounded", call_grounded},
+        {"plain", call_plain},
+#ifdef NUNTENNIS_HAS_REPORT
+        {"report", call_report},
+        {"plain_report", call_plain_report},
+#endif
+#ifdef NUNTENNIS_HAS_WALK
+        {"walk", call_walk},
+#endif
     };
     size_t n = all_families(instances), thread_only = stack_of(no_call, instances), most = 0;
     words = NUNTENNIS_WORKSPACE_WORDS(1024, 1024);
     workspace = calloc(words, sizeof *workspace);
-    report = calloc(NUNTENNIS_REPORT_WORDS(1024, 1024), sizeof *report);
     for (size_t c = 0; c < sizeof calls / sizeof calls[0]; c++) {
         size_t most_here = 0;
         for (size_t k = 0; k < n; k++) {
@@ -105,7 +118,6 @@ int main(void)
         if (most_here > most) most = most_here;
     }
     free(workspace);
-    free(report);
     if (most > NUNTENNIS_STACK_BYTES) printf("that is over NUNTENNIS_STACK_BYTES, %d\n", NUNTENNIS_STACK_BYTES);
     else printf("test_stack: within %d bytes\n", NUNTENNIS_STACK_BYTES);
     return most > NUNTENNIS_STACK_BYTES;

@@ -1,0 +1,33 @@
+-- What a host gets of a decision (01, "One command a call"). Assumes nothing.
+use mathlib.Core.Path.{_≡_}
+use mathlib.Core.Bool.{cond}
+use mathlib.Core.List.{List, _∷_}
+use Prim.Native.Nat.{ℕ, _≤_, _<_}
+use lib.ListN.{length, drop}
+use lib.Dec.{ltb}
+use Rattle.labels.specs.Labels.{labelCount}
+use Rattle.expression.specs.declared.Outcome.{Outcome}
+use Rattle.expression.specs.Outcomes.{kindOf, valueOf, placeOf}
+use Rattle.expression.specs.Checks.{Request}
+use Rattle.engine.specs.Engine.{wordsAfter}
+
+-- kind, value and place
+abbrev pub answerWords : ℕ
+answerWords = 3
+
+-- the number that a call returns: 0 where the answer's slice is short, and then no decision is made
+abbrev pub returned : List ℕ → ℕ
+returned answer = cond (ltb (length answer) answerWords) 0 1
+
+-- the words of the workspace after a call
+abbrev pub workspaceAfter : List ℕ → Request → List ℕ → List ℕ
+workspaceAfter answer a ws = cond (ltb (length answer) answerWords) ws (wordsAfter labelCount a ws)
+
+-- an outcome's three words, and the later words kept
+abbrev pub answerOf : Outcome → List ℕ → List ℕ
+answerOf o answer = kindOf o ∷ valueOf o ∷ placeOf o ∷ drop answerWords answer
+
+-- the answer's slice before and after a call: a short one is as it was; any other tells an outcome of which R holds
+pub record Answered (R : Outcome → Type 0) (answer answer' : List ℕ) : Type 0 where
+  pub short : length answer < answerWords → answer' ≡ answer
+  pub told : answerWords ≤ length answer → (o : Outcome) × R o × (answer' ≡ answerOf o answer)

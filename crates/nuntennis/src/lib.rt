@@ -1,0 +1,71 @@
+// The calls for a host in C, under the names and in the order of include/nuntennis.h. None has a `requires`.
+use checks::outcomes::kind;
+use checks::outcomes::place;
+use checks::outcomes::value;
+use expression::Outcome;
+ghost use mathlib.Core.Path.{_≡_};
+ghost use Prim.Native.Nat.{_≤_};
+ghost use lib.ListN.{length};
+ghost use Rattle.labels.specs.Labels.{labelCount};
+ghost use Rattle.decisions.specs.Outcomes.{GroundedOutcome, PlainOutcome};
+ghost use Rattle.calls.specs.Calls.{request};
+ghost use Rattle.nuntennis.specs.Answers.{answerWords, returned, workspaceAfter, answerOf, Answered};
+
+// Kind, value and place.
+const ANSWER_WORDS: usize = 3;
+
+// The grounded decision. The mask of a yes is the only free result: an answer set that obeys the assumptions (demand 3).
+#[no_mangle]
+pub extern "C" fn nuntennis_grounded(
+    sheet: &[u8],
+    p: u64,
+    g: u64,
+    pins_in: u64,
+    pins_out: u64,
+    workspace: &mut [u32],
+    answer: &mut [u64],
+) -> u64
+    ensures { λ r. ⌜ r ≡ returned (now (answer .entry)) ⌝ }
+    ensures { λ r. ⌜ Answered (GroundedOutcome labelCount (request (now (sheet .entry)) p g (length (now (workspace .entry))) «pins_in» «pins_out»)) (now (answer .entry)) (now (answer .exit)) ⌝ }
+    ensures { λ r. ⌜ now (workspace .exit) ≡ workspaceAfter (now (answer .entry)) (request (now (sheet .entry)) p g (length (now (workspace .entry))) «pins_in» «pins_out») (now (workspace .entry)) ⌝ }
+{
+    if answer.len() < ANSWER_WORDS {
+        return 0;
+    }
+    let o = calls::grounded(sheet, p, g, pins_in, pins_out, workspace);
+    write_answer(answer, o);
+    1
+}
+
+// The plain decision: nothing of it is free, and a yes shows no mask.
+#[no_mangle]
+pub extern "C" fn nuntennis_plain(
+    sheet: &[u8],
+    p: u64,
+    g: u64,
+    pins_in: u64,
+    pins_out: u64,
+    workspace: &mut [u32],
+    answer: &mut [u64],
+) -> u64
+    ensures { λ r. ⌜ r ≡ returned (now (answer .entry)) ⌝ }
+    ensures { λ r. ⌜ Answered (PlainOutcome labelCount (request (now (sheet .entry)) p g (length (now (workspace .entry))) «pins_in» «pins_out»)) (now (answer .entry)) (now (answer .exit)) ⌝ }
+    ensures { λ r. ⌜ now (workspace .exit) ≡ workspaceAfter (now (answer .entry)) (request (now (sheet .entry)) p g (length (now (workspace .entry))) «pins_in» «pins_out») (now (workspace .entry)) ⌝ }
+{
+    if answer.len() < ANSWER_WORDS {
+        return 0;
+    }
+    let o = calls::plain(sheet, p, g, pins_in, pins_out, workspace);
+    write_answer(answer, o);
+    1
+}
+
+// An outcome's three words; later words keep their values.
+fn write_answer(answer: &mut [u64], o: Outcome)
+    requires { ⌜ answerWords ≤ length (now answer) ⌝ }
+    ensures { λ _. ⌜ now (answer .exit) ≡ answerOf o (now (answer .entry)) ⌝ }
+{
+    answer[0] = kind(o);
+    answer[1] = value(o);
+    answer[2] = place(o);
+}
