@@ -1,5 +1,5 @@
 // What a decision and a report answer on a small sheet.
-ghost use Prim.Native.Nat.{_+_, _*_, _<_, _≤_};
+ghost use Prim.Native.Nat.{_<_, _≤_};
 ghost use lib.ListN.{length};
 use crate::Reported;
 use crate::Request;

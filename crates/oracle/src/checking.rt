@@ -1,6 +1,5 @@
 // The checks that come before any table: 1 to 13 in 01's order.
-ghost use Prim.Native.Nat.{_<_, _≤_};
-ghost use lib.ListN.{length};
+ghost use Prim.Native.Nat.{_≤_};
 use crate::Request;
 use crate::policy::Policy;
 use crate::policy::advance;

@@ -1,5 +1,7 @@
 // Pseudo-random sheets and requests.
+ghost use mathlib.Core.Path.{_≡_};
 ghost use Prim.Native.Nat.{_+_, _*_, _<_, _≤_};
+ghost use lib.ListN.{length, take};
 use crate::Request;
 
 // A sheet that is being written into a lent array: how long it is, and what its commands leave.
@@ -9,7 +11,7 @@ struct Draft {
     depth: u64,
     atoms: u64,
     rules: u64,
-    // which of the ranges of labels its labels are drawn from
+    // says which labels are drawn
     spread: u64,
 }
 
@@ -29,8 +31,48 @@ fn drawn(seed: u64) -> u64
 
 // ---- sheets
 
+// Which sheets are drawn.
+pub const VALID: u64 = 0;
+
+pub const DAMAGED: u64 = 1;
+
+pub const NOISE: u64 = 2;
+
+// A sheet of a style; the answer is its length. The second fact is what a caller has to know to take that part of its array.
+pub fn sheet(style: u64, seed: u64, out: &mut [u8]) -> usize
+    requires { ⌜ 128 ≤ length (now out) ⌝ }
+    ensures { λ r. ⌜ (r ≤ length (now (out .exit))) × (r ≡ length (take r (now (out .exit)))) ⌝ }
+{
+    let mut draft = [0u8; 128];
+    let n = styled_sheet(style, seed, &mut draft);
+    copy(&draft, n, out);
+    n
+}
+
+fn styled_sheet(style: u64, seed: u64, out: &mut [u8; 128]) -> usize
+    ensures { λ r. ⌜ r ≤ 128 ⌝ }
+{
+    if style == VALID {
+        return valid_sheet(out, seed);
+    }
+    if style == DAMAGED {
+        return damaged_sheet(out, seed);
+    }
+    noise(out, seed)
+}
+
+fn copy(draft: &[u8; 128], n: usize, out: &mut [u8])
+    requires { ⌜ (n ≤ 128) × (n ≤ length (now out)) ⌝ }
+{
+    let mut k: usize = 0;
+    while k < n {
+        out[k] = draft[k];
+        k += 1;
+    }
+}
+
 // A sheet that passes checks 5 to 12.
-pub fn valid_sheet(out: &mut [u8; 128], seed: u64) -> usize
+fn valid_sheet(out: &mut [u8; 128], seed: u64) -> usize
     ensures { λ r. ⌜ r ≤ 128 ⌝ }
 {
     let start = Draft {
@@ -39,17 +81,17 @@ pub fn valid_sheet(out: &mut [u8; 128], seed: u64) -> usize
         depth: 0,
         atoms: 0,
         rules: 0,
-        spread: drawn(seed) % 4,
+        spread: drawn(seed) % 8,
     };
     let first = draft_atom(out, start);
     let built = draft_commands(out, first, 4 + drawn(first.seed) % 21);
     let joined = draft_unions(out, built);
-    let linked = draft_links(out, joined, drawn(joined.seed) % 9);
+    let linked = draft_links(out, joined, 2 + drawn(joined.seed) % 7);
     linked.length
 }
 
 // A valid sheet that is cut, or has one byte changed.
-pub fn damaged_sheet(out: &mut [u8; 128], seed: u64) -> usize
+fn damaged_sheet(out: &mut [u8; 128], seed: u64) -> usize
     ensures { λ r. ⌜ r ≤ 128 ⌝ }
 {
     let length = valid_sheet(out, seed);
@@ -62,43 +104,72 @@ pub fn damaged_sheet(out: &mut [u8; 128], seed: u64) -> usize
         return at;
     }
     if x % 4 == 1 {
-        out[at] = (x / 4 % 128) as u8;
-    } else {
         out[at] = likely_byte(x / 4);
+    } else {
+        out[at] = likely_operand(x / 4);
     }
     length
 }
 
-// Commands and operands that need not make sense together.
-pub fn noise(out: &mut [u8; 128], seed: u64) -> usize
+// An atom, then commands and operands that need not make sense together.
+fn noise(out: &mut [u8; 128], seed: u64) -> usize
     ensures { λ r. ⌜ r ≤ 128 ⌝ }
 {
     let count = drawn(seed) % 40;
-    let mut at: usize = 0;
+    let mut at = emit(out, 0, 0x11, 0, 0);
     let mut next = next_seed(seed);
     let mut k: u64 = 0;
     while k < count {
         let x = drawn(next);
-        let byte = likely_byte(x);
-        at = emit(out, at, byte, (x / 64 % 9) as u8, (x / 1024 % 9) as u8);
+        at = emit(
+            out,
+            at,
+            likely_byte(x),
+            likely_operand(x / 64),
+            likely_operand(x / 4096),
+        );
         next = next_seed(next);
         k += 1;
     }
     at
 }
 
+// One leaf and n more, each joined at once: a valid sheet up to 63 atoms or 256 rules.
+pub fn joined_leaves(out: &mut [u8], byte: u8, n: usize) -> usize
+    requires { ⌜ 3 * n + 2 ≤ length (now out) ⌝ }
+    ensures { λ r. ⌜ (r ≤ length (now (out .exit))) × (r ≡ length (take r (now (out .exit)))) ⌝ }
+{
+    out[0] = byte;
+    out[1] = 0;
+    let mut k: usize = 0;
+    while k < n {
+        out[3 * k + 2] = byte;
+        out[3 * k + 3] = 0;
+        out[3 * k + 4] = 0x21;
+        k += 1;
+    }
+    3 * n + 2
+}
+
 // Mostly a command byte.
 fn likely_byte(x: u64) -> u8 {
-    match x % 16 {
-        0 | 1 | 2 => 0x11,
-        3 | 4 => 0x12,
-        5 | 6 | 7 | 8 => 0x21,
-        9 => 0x31,
-        10 | 11 => 0x41,
-        12 => 0x42,
-        13 => 0x43,
-        14 => (x / 16 % 8) as u8,
-        _ => (x / 16 % 256) as u8,
+    match x % 32 {
+        0..=8 => 0x11,
+        9..=15 => 0x12,
+        16..=19 => 0x21,
+        20 | 21 => 0x31,
+        22..=25 => 0x41,
+        26 | 27 => 0x42,
+        28..=30 => 0x43,
+        _ => (x / 32 % 256) as u8,
+    }
+}
+
+// Mostly a label.
+fn likely_operand(x: u64) -> u8 {
+    match x % 32 {
+        0 => 8,
+        _ => (x / 32 % 8) as u8,
     }
 }
 
@@ -119,11 +190,20 @@ fn emit(out: &mut [u8; 128], at: usize, byte: u8, i: u8, j: u8) -> usize
 
 fn label(x: u64, spread: u64) -> u8 {
     match spread {
-        0 => (x % 2) as u8,
-        1 => (x % 3) as u8,
-        2 => (x % 4) as u8,
+        0 | 1 | 2 => (x % 2) as u8,
+        3 | 4 => (x % 3) as u8,
+        5 | 6 => (x % 4) as u8,
         _ => (x % 8) as u8,
     }
+}
+
+// In half of the sheets no rule starts with label 0, so that links from there reach most rules: a rule without atoms has no model.
+fn rule_label(x: u64, spread: u64) -> u8 {
+    let g = label(x, spread);
+    if spread % 2 == 0 {
+        return g;
+    }
+    other(0, g)
 }
 
 // j, or a label beside it where it is i.
@@ -171,7 +251,7 @@ fn draft_rule(out: &mut [u8; 128], d: Draft) -> Draft
     }
     next.rules = d.rules + 1;
     next.depth = d.depth + 1;
-    next.length = emit(out, d.length, 0x12, label(drawn(d.seed), d.spread), 0);
+    next.length = emit(out, d.length, 0x12, rule_label(drawn(d.seed), d.spread), 0);
     next
 }
 
@@ -203,10 +283,10 @@ fn draft_link(out: &mut [u8; 128], d: Draft) -> Draft
 }
 
 fn link_byte(x: u64) -> u8 {
-    match x % 8 {
+    match x % 16 {
         0 => 0x31,
-        1 | 2 | 3 => 0x41,
-        4 | 5 => 0x42,
+        1 | 2 | 3 | 4 | 5 | 6 | 7 => 0x41,
+        8 | 9 | 10 | 11 => 0x42,
         _ => 0x43,
     }
 }
@@ -220,8 +300,8 @@ fn draft_command(out: &mut [u8; 128], d: Draft) -> Draft
     next.seed = next_seed(d.seed);
     match drawn(d.seed) % 8 {
         0 | 1 => draft_atom(out, next),
-        2 | 3 => draft_rule(out, next),
-        4 | 5 => draft_union(out, next),
+        2 => draft_rule(out, next),
+        3 | 4 => draft_union(out, next),
         _ => draft_link(out, next),
     }
 }
@@ -268,7 +348,7 @@ fn draft_links(out: &mut [u8; 128], d: Draft, n: u64) -> Draft
 
 // ---- requests
 
-// Limits and pins for a workspace of so many words.
+// Limits and pins for a workspace of so many words, of which the limits within bounds need 149,760 at most.
 pub fn request(seed: u64, room: u64) -> Request {
     let limits = drawn(next_seed(seed));
     let pins = next_seed(next_seed(seed));
@@ -282,19 +362,21 @@ pub fn request(seed: u64, room: u64) -> Request {
     }
 }
 
-// 32 or a smaller limit; once in many 0 or one beyond the greatest.
+// Once in many 0 or one beyond the greatest.
 fn limit(x: u64) -> u64 {
-    match x % 64 {
+    match x % 128 {
         0 => 0,
         1 => 1025,
-        _ => bounded_limit(x / 64),
+        _ => bounded_limit(x / 128),
     }
 }
 
+// 128 is enough for every sheet that is tried.
 fn bounded_limit(x: u64) -> u64 {
-    match x % 4 {
-        0 => 1 + x / 4 % 16,
-        1 => 1 + x / 4 % 4,
+    match x % 8 {
+        0 => 1 + x / 8 % 4,
+        1 => 1 + x / 8 % 16,
+        2 => 128,
         _ => 32,
     }
 }
@@ -302,11 +384,10 @@ fn bounded_limit(x: u64) -> u64 {
 // Mostly no atom or few of the first ones; sometimes one that the sheet can lack.
 fn pinned(seed: u64) -> u64 {
     let x = drawn(seed);
-    let set = x / 16 % 64;
     match x % 16 {
-        0 => set,
-        1 | 2 | 3 | 4 => set & (x / 1024 % 64) & (x / 65536 % 64),
-        5 => seed & next_seed(seed) & 0x8000000000000041,
+        0 => x / 16 % 64,
+        1 | 2 | 3 | 4 => x / 16 % 4,
+        5 => seed & 0x8000000000000040,
         _ => 0,
     }
 }

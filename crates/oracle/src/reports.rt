@@ -1,5 +1,5 @@
 // What a report answers on a small sheet (01, Tables and Outcomes).
-ghost use Prim.Native.Nat.{_+_, _*_, _<_, _≤_};
+ghost use Prim.Native.Nat.{_+_, _<_, _≤_};
 ghost use lib.ListN.{length};
 use crate::Reported;
 use crate::Request;

@@ -1,17 +1,20 @@
 -- `generator::noise` is safe and ends. Assumes nothing.
-use Prim.Native.Nat.{_-_, _≤_, _*_, _<_}
+use Prim.Native.Nat.{_-_, _≤_, _<_, _+_, _*_}
 use borrow.Author.Needs.{needs}
 use Rattle.oracle.proofs.generator.noise.Statement.{statement}
 use Rattle.oracle.proofs.generator.noise.Tie as tie
 
 abbrev Inv-loop : tie.InvT-loop
-Inv-loop out₀ seed count at₀ next₀ k₀ out at next k = (at ≤ 3 * k) × (count < 40) × (k ≤ count)
+Inv-loop out₀ seed count at₀ next₀ k₀ out at next k = (at ≤ 3 + 3 * k) × (count < 40) × (k ≤ count)
 
 abbrev μ-loop : tie.MeasureT-loop
 μ-loop out₀ seed count at₀ next₀ k₀ out at next k = count - k
 
 drawn-requires : tie.Need-drawn-requires Inv-loop μ-loop
 drawn-requires c κs = search needs
+
+emit-requires : tie.Need-emit-requires Inv-loop μ-loop
+emit-requires c κs = search needs
 
 next-seed-requires : tie.Need-next-seed-requires Inv-loop μ-loop
 next-seed-requires c κs = search needs
@@ -25,14 +28,14 @@ drawn-requires-2 c κs = search needs
 likely-byte-requires : tie.Need-likely-byte-requires Inv-loop μ-loop
 likely-byte-requires c κs = search needs
 
-cast-emit : tie.Need-cast-emit Inv-loop μ-loop
-cast-emit c = search needs
+likely-operand-requires : tie.Need-likely-operand-requires Inv-loop μ-loop
+likely-operand-requires c κs = search needs
 
-cast-emit-2 : tie.Need-cast-emit-2 Inv-loop μ-loop
-cast-emit-2 c = search needs
+likely-operand-requires-2 : tie.Need-likely-operand-requires-2 Inv-loop μ-loop
+likely-operand-requires-2 c κs = search needs
 
-emit-requires : tie.Need-emit-requires Inv-loop μ-loop
-emit-requires c κs = search needs
+emit-requires-2 : tie.Need-emit-requires-2 Inv-loop μ-loop
+emit-requires-2 c κs = search needs
 
 next-seed-requires-2 : tie.Need-next-seed-requires-2 Inv-loop μ-loop
 next-seed-requires-2 c κs = search needs
@@ -56,13 +59,14 @@ noise-spec =
     Inv-loop
     μ-loop
     drawn-requires
+    emit-requires
     next-seed-requires
     loop-holds
     drawn-requires-2
     likely-byte-requires
-    cast-emit
-    cast-emit-2
-    emit-requires
+    likely-operand-requires
+    likely-operand-requires-2
+    emit-requires-2
     next-seed-requires-2
     add-k
     loop-less
