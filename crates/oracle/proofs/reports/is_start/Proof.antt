@@ -1,0 +1,43 @@
+-- `reports::is_start` is safe and ends. Assumes nothing.
+use Prim.Native.Nat.{_-_}
+use lib.ListN.{length}
+use borrow.Author.Needs.{needs}
+use Rattle.oracle.proofs.reports.is_start.Statement.{statement}
+use Rattle.oracle.proofs.reports.is_start.Tie as tie
+
+abbrev Inv-loop : tie.InvT-loop
+Inv-loop s asked p₀ p = Unit {0}
+
+abbrev μ-loop : tie.MeasureT-loop
+μ-loop s asked p₀ p = length s - p .at
+
+no-policy-requires : tie.Need-no-policy-requires Inv-loop μ-loop
+no-policy-requires c κs = search needs
+
+loop-holds : tie.Need-loop-holds Inv-loop μ-loop
+loop-holds c = search needs
+
+advance-requires : tie.Need-advance-requires Inv-loop μ-loop
+advance-requires c κs = search needs
+
+loop-less : tie.Need-loop-less Inv-loop μ-loop
+loop-less c = search needs
+
+loop-again : tie.Need-loop-again Inv-loop μ-loop
+loop-again c = search needs
+
+returns : tie.Need-returns Inv-loop μ-loop
+returns c = search needs
+
+pub is-start-spec : {M : Type 1} → statement M
+is-start-spec =
+    tie.close
+    (tie.spec
+    Inv-loop
+    μ-loop
+    no-policy-requires
+    loop-holds
+    advance-requires
+    loop-less
+    loop-again
+    returns)
