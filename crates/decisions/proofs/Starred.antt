@@ -1,16 +1,21 @@
 -- 01's starred sheets, as one table under one theorem: what each decision says of them, and every mask that may be shown, by computation. Assumes nothing.
-use mathlib.Core.Path.{_≡_, refl}
-use mathlib.Core.Bool.{Bool, true, false, _&&_}
-use mathlib.Core.List.{List, [], _∷_, _++_}
+use mathlib.Core.Path.{_≡_, refl, sym, ap, ap₂, _∙_, subst}
+use mathlib.Core.Bool.{Bool, true, false, _&&_, true≢false}
+use mathlib.Core.List.{List, [], _∷_, _++_, List·Memᴰ}
 use Prim.Native.Nat.{ℕ}
 use lib.Dec.{eqb}
+use borrow.Author.Tests.{eqb-true}
 use Rattle.lists.specs.declared.Order.{Order}
 use Rattle.lists.specs.declared.Order.the-variants.{Less, Same, More}
-use Rattle.lists.specs.Lists.{some, every, keep, products, run}
+use Rattle.lists.specs.Lists.{All, some, every, keep, products, run}
 use Rattle.lists.specs.Sorted.{compareNumbers, compareLists, insert, insertAll, canon, setOf}
+use Rattle.lists.proofs.Comparisons.{lists-lawful}
+use Rattle.lists.proofs.Members.{and-both}
 use Rattle.labels.specs.Labels.{labelCount}
 use Rattle.labels.specs.Sets.{has, without, replace}
 use Rattle.expression.specs.declared.Kind.the-variants.{Head}
+use Rattle.expression.specs.declared.Outcome.{Outcome}
+use Rattle.expression.specs.declared.Outcome.the-variants.{Yes, No, Refused}
 use Rattle.expression.specs.Limits.{workspaceNeed}
 use Rattle.expression.specs.Commands.{oneOperand, twoOperands, isCommand, operandCount, commandOf, readCommand, readAt}
 use Rattle.expression.specs.Reading.{noCounts, newAtoms, newRules, depthAfter, counted, countFault, behind, readFrom, reading}
@@ -22,7 +27,10 @@ use Rattle.tables.specs.Algebras.{leaf, tables, table}
 use Rattle.tables.specs.Triples.{markT, markF, markU, relabelTriple, settles, connectTriple, allMet}
 use Rattle.tables.specs.Definitions.{unitePairs, mapPair, triples, pairs, plainAccepts, accepting, groundedAccepts}
 use Rattle.decisions.specs.Decisions.{Verdict, affirmed, denied, refused, assumed, commandsIn, pairsFault, plainFault, walk, answer, conclude, decide, grounded, plain, treeOf, expressionOf}
-use Rattle.decisions.proofs.Shown.{narrowed, shownMasks}
+use Rattle.decisions.specs.Outcomes.{verdictOf, withoutMask, GroundedOutcome, PlainOutcome}
+use Rattle.decisions.proofs.Walks.{Settled}
+use Rattle.decisions.proofs.Demands.{tree}
+use Rattle.decisions.proofs.Shown.{narrowed, shownMasks, shows-listed}
 
 sameVerdict : Verdict → Verdict → Bool
 sameVerdict affirmed affirmed = true
@@ -120,3 +128,79 @@ listing-10 : table (pairs 10) (byMasks 0 0) kept ≡ (1 ∷ 2098176 ∷ []) ∷ 
 unfolding kept byMasks fold pairs mapPair unitePairs connectTriple settles relabelTriple markT markF markU table tables leaf some products setOf canon insertAll insert compareLists compareNumbers has without
     replace
 listing-10 = refl
+
+-- ---- the same of the calls: what their contracts give for each row
+
+-- the mask that an outcome shows is one of those listed
+abbrev ShowsOf : Outcome → List ℕ → Type 0
+ShowsOf (Yes m) l = List·Memᴰ m l
+ShowsOf No l = Unit {0}
+ShowsOf (Refused n at) l = Unit {0}
+
+record Told (r : Row) : Type 0 where
+  grounded-told : (o : Outcome) → GroundedOutcome labelCount (r .asked) o → (verdictOf o ≡ r .says) × ShowsOf o (r .shown)
+  plain-told : (o : Outcome) → PlainOutcome labelCount (r .asked) o → o ≡ withoutMask (r .plainly)
+
+same-is : (v w : Verdict) → sameVerdict v w ≡ true → v ≡ w
+unfolding sameVerdict
+same-is affirmed affirmed h = refl
+same-is affirmed denied h = absurd (true≢false (sym h))
+same-is affirmed (refused n a) h = absurd (true≢false (sym h))
+same-is denied affirmed h = absurd (true≢false (sym h))
+same-is denied denied h = refl
+same-is denied (refused n a) h = absurd (true≢false (sym h))
+same-is (refused m b) affirmed h = absurd (true≢false (sym h))
+same-is (refused m b) denied h = absurd (true≢false (sym h))
+same-is (refused m b) (refused n a) h = let q = and-both (eqb m n) (eqb b a) h in ap₂ refused (eqb-true m n (q .0)) (eqb-true b a (q .1))
+
+isSame-is : (o : Order) → isSame o ≡ true → o ≡ Same
+unfolding isSame
+isSame-is Less h = absurd (true≢false (sym h))
+isSame-is Same h = refl
+isSame-is More h = absurd (true≢false (sym h))
+
+module _ (r : Row) (h : right r ≡ true) where
+  abbrev a : Request
+  a = r .asked
+
+  abbrev verdict : Bool
+  verdict = sameVerdict (grounded labelCount a) (r .says)
+
+  abbrev masks : Bool
+  masks = shownRight a (r .says) (r .shown)
+
+  abbrev plain-verdict : Bool
+  plain-verdict = sameVerdict (plain labelCount a) (r .plainly)
+
+  both : ((verdict && masks) ≡ true) × (plain-verdict ≡ true)
+  unfolding right
+  both = and-both (verdict && masks) plain-verdict h
+
+  grounded-is : grounded labelCount a ≡ r .says
+  grounded-is = same-is (grounded labelCount a) (r .says) (and-both verdict masks (both .0) .0)
+
+  plain-is : plain labelCount a ≡ r .plainly
+  plain-is = same-is (plain labelCount a) (r .plainly) (both .1)
+
+  masks-are : r .says ≡ affirmed → r .shown ≡ shownMasks labelCount a (expressionOf labelCount (a .bytes))
+  unfolding shownRight
+  masks-are e = lists-lawful .same _ _ (isSame-is _ (subst (λ v. shownRight a v (r .shown) ≡ true) e (and-both verdict masks (both .0) .1)))
+
+  shown-told : (o : Outcome) → GroundedOutcome labelCount a o → ShowsOf o (r .shown)
+  shown-told (Yes m) c =
+      let says : r .says ≡ affirmed = sym grounded-is ∙ sym (c .verdict) in
+      let t = tree labelCount a (subst Settled (c .verdict) tt) in
+      subst (List·Memᴰ m) (sym (masks-are says)) (shows-listed labelCount a t m (c .right))
+  shown-told No c = tt
+  shown-told (Refused n at) c = tt
+
+  told : Told r
+  told = record { grounded-told = λ o c. (c .verdict ∙ grounded-is, shown-told o c); plain-told = λ o c. c .outcome ∙ ap withoutMask plain-is }
+
+told-all : (rs : List Row) → every right rs ≡ true → All Told rs
+unfolding every
+told-all [] h = tt
+told-all (r ∷ rs) h = let q = and-both (right r) (every right rs) h in (told r (q .0), told-all rs (q .1))
+
+starred-told : All Told rows
+starred-told = told-all rows starred
