@@ -34,13 +34,15 @@
  *   subset_limit (G)           the most subsets that a pair may have, 1 to 1024
  *   pins_in, pins_out          bit c is copy c: the plan has every copy of pins_in and none of pins_out
  *   workspace, workspace_len   lent words, at least NUNTENNIS_WORKSPACE_WORDS(P, G); they may hold anything before a call
- *   answer, answer_len         at least three words: kind, value, place (see ANSWERS)
+ *   answer, answer_len         at least three words (see ANSWERS)
+ *   asked                      reports: the offset in the sheet of the command asked
+ *   report, report_len         reports: lent words for the report; they may hold anything before a call
  *
  * A length counts elements, not bytes. A pointer is not NULL and is aligned for its type, also where its length is 0. The buffers of
  * one call do not overlap.
  *
  * Every call returns 1, and then answer[0] to answer[2] are written and later words of answer keep their values; or it returns 0 where
- * answer_len is under three, and then nothing at all is read or written and no decision is made.
+ * answer_len is under three, and then nothing at all is read or written: no decision, no report.
  *
  *
  * ANSWERS
@@ -48,9 +50,11 @@
  *   answer[0]  kind       answer[1]  value                                answer[2]  place
  *   0  no                 0                                               0
  *   1  yes                grounded: the plan, bit c is copy c; plain: 0   0
+ *   1  reported           entries written                                 words written
  *   2  refused            the refusal's number                            the refusal's place
  *
- * Any grounded plan that obeys the pins may be the plan of a yes; no bit beyond the sheet's copies is set in it.
+ * Decisions answer 0, 1 or 2, reports 1 or 2. Any grounded plan that obeys the pins may be the plan of a yes; no bit beyond the sheet's
+ * copies is set in it. Nothing else is left open.
  *
  *
  * REFUSALS
@@ -69,22 +73,27 @@
  *   11  bare           21 with under two parts; 31, 41, 42, 43 with none       offset of that command
  *   12  unjoined       not exactly one part at the end                         sheet_len
  *   13  absent         a pin on a copy that the sheet lacks, bit 63 included   sheet_len
+ *   14  offset         reports: no command starts at byte asked                asked
  *   15  subsets full   a pair of the table here has over G subsets             offset of the command that makes the table
  *   16  plans full     the table here has over P entries                       offset of the command that makes the table
+ *   17  report short   reports: report_len is under the words needed           asked
  *
  * They are tested in this order: 1 to 4; then the whole sheet is read, and the first faulty command gives the lowest of 5 to 11 that
- * applies to it; then 12, 13; then the tables command by command, at each command 15 before 16. plain never gives 15. The numbers 14,
- * 17 and 18 are kept for calls to come.
+ * applies to it; then 12, 13; then 14; then the tables command by command, at each command 15 before 16, and for a report no further than
+ * the command asked; then 17. plain and plain_report never give 15. The number 18 is kept for calls to come.
  *
- * A table here is the one after a command (document 01, Tables): of pairs for grounded, of triples for plain.
+ * A table here is the one after a command (document 01, Tables): of pairs for grounded and report, of triples for plain and plain_report.
  *
  *
- * WHAT A CALL LEAVES IN THE WORKSPACE (NEED is NUNTENNIS_WORKSPACE_WORDS(P, G))
+ * WHAT A CALL LEAVES (NEED is NUNTENNIS_WORKSPACE_WORDS(P, G))
  *
- *   yes, no, 15, 16    the first NEED words are zero
- *   1 to 13            unchanged
+ *   Outcome                    first NEED words of workspace   report
+ *   yes, no                    all zero
+ *   reported                   all zero                        its first answer[2] words are the report, later ones unchanged
+ *   refused 15, 16, 17         all zero                        unchanged
+ *   refused 1 to 14            unchanged                       unchanged
  *
- * Words of workspace past the first NEED are never read or written.
+ * Words of workspace past the first NEED are never read or written. Words of report are never read.
  */
 #ifndef NUNTENNIS_H
 #define NUNTENNIS_H
@@ -108,10 +117,15 @@ extern "C" {
 /* Words of 32 bits that a call needs as workspace, for P and G from 1 to 1024: a constant expression if they are. */
 #define NUNTENNIS_WORKSPACE_WORDS(P, G) ((size_t)9 * (size_t)(P) * ((size_t)(G) + 2))
 
-/* answer[0] */
+/* Words of 32 bits that no report is longer than. */
+#define NUNTENNIS_REPORT_WORDS(P, G) ((size_t)(P) * ((size_t)(G) + 2))
+#define NUNTENNIS_PLAIN_REPORT_WORDS(P) ((size_t)(P))
+
+/* answer[0]; reports have NUNTENNIS_REPORTED in place of NUNTENNIS_YES */
 enum {
     NUNTENNIS_NO = 0,
     NUNTENNIS_YES = 1,
+    NUNTENNIS_REPORTED = 1,
     NUNTENNIS_REFUSED = 2
 };
 
@@ -130,8 +144,10 @@ enum {
     NUNTENNIS_BARE = 11,
     NUNTENNIS_UNJOINED = 12,
     NUNTENNIS_ABSENT = 13,
+    NUNTENNIS_OFFSET = 14,
     NUNTENNIS_SUBSETS_FULL = 15,
-    NUNTENNIS_PLANS_FULL = 16
+    NUNTENNIS_PLANS_FULL = 16,
+    NUNTENNIS_REPORT_SHORT = 17
 };
 
 /*
@@ -164,19 +180,11 @@ uint64_t nuntennis_plain(const uint8_t *sheet, size_t sheet_len,
                          uint64_t *answer, size_t answer_len);
 
 /*
- * ---- NOT IN THIS LIBRARY YET ----
- *
- * From here to the end stand calls that are planned. The archive does not have them, this header does not declare them, and their text
- * promises nothing until then: each block will be compiled, and its rows will move up into the manual, when its macro
- * (NUNTENNIS_HAS_REPORT, NUNTENNIS_HAS_WALK) is defined here. Do not define them yourself: such a call can not be linked.
- */
-#ifdef NUNTENNIS_HAS_REPORT
-
-/*
  * REPORTS
  *
  * The table after the command that starts at byte `asked`, that is the table of the part that this command leaves newest. The whole
- * sheet is read and checked first; tables are built up to that command and no further.
+ * sheet is read and checked first; tables are built up to that command and no further. Pins bind the plans of the table, never their
+ * smaller plans.
  *
  * A triple is three sets of groups as one number, T + 256*F + 65536*U, where group g counts 2^g in its set. T: groups with a copy in
  * the plan. F: groups with a copy outside it. U: groups with an unmet rule. A pair is a triple Q of a plan, with the triples of its
@@ -190,21 +198,12 @@ uint64_t nuntennis_plain(const uint8_t *sheet, size_t sheet_len,
  * For the sheet of the example above and asked = 5 (its link) the pair report is the five words 1 1 131328 131328 0, and the answer is
  * 1, 2 entries, 5 words.
  *
- * Answer: 1 reported, entries written, words written; or 2 refused.
+ *     static uint32_t report[NUNTENNIS_REPORT_WORDS(32, 32)];
  *
- *   No. Word           Given when                                              Place
- *   14  offset         no command starts at the offset asked                   the offset asked
- *   17  report short   report_len is under the words needed                    the offset asked
- *
- * 14 is tested after 13, 17 after the tables. plain_report never gives 15. 1 to 14 leave all buffers unchanged; after any other outcome
- * the first NEED words of workspace are zero. Words of report are only written, none past those of the report, and none with 17.
+ *     nuntennis_report(sheet, sizeof sheet, 5, 32, 32, 0, 0, workspace, NUNTENNIS_WORKSPACE_WORDS(32, 32),
+ *                      report, NUNTENNIS_REPORT_WORDS(32, 32), answer, 3);
  */
-
-/* Words of 32 bits that no report is longer than. */
-#define NUNTENNIS_REPORT_WORDS(P, G) ((size_t)(P) * ((size_t)(G) + 2))
-#define NUNTENNIS_PLAIN_REPORT_WORDS(P) ((size_t)(P))
-
-enum { NUNTENNIS_REPORTED = 1, NUNTENNIS_OFFSET = 14, NUNTENNIS_REPORT_SHORT = 17 };
+#define NUNTENNIS_HAS_REPORT 1
 
 uint64_t nuntennis_report(const uint8_t *sheet, size_t sheet_len, size_t asked,
                           uint64_t plan_limit, uint64_t subset_limit, uint64_t pins_in, uint64_t pins_out,
@@ -218,8 +217,13 @@ uint64_t nuntennis_plain_report(const uint8_t *sheet, size_t sheet_len, size_t a
                                 uint32_t *report, size_t report_len,
                                 uint64_t *answer, size_t answer_len);
 
-#endif
-
+/*
+ * ---- NOT IN THIS LIBRARY YET ----
+ *
+ * From here to the end stand calls that are planned. The archive does not have them, this header does not declare them, and their text
+ * promises nothing until then: the block will be compiled, and its rows will move up into the manual, when its macro,
+ * NUNTENNIS_HAS_WALK, is defined here. Do not define it yourself: such a call can not be linked.
+ */
 #ifdef NUNTENNIS_HAS_WALK
 
 /*

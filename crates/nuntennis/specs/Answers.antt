@@ -19,9 +19,13 @@ answerWords = 3
 abbrev pub returned : List ℕ → ℕ
 returned answer = cond (ltb (length answer) answerWords) 0 1
 
--- the words of the workspace after a call
+-- the words of a lent slice before and after: a call with a short answer leaves them
+abbrev pub unlessShort : List ℕ → List ℕ → List ℕ → List ℕ
+unlessShort answer xs xs' = cond (ltb (length answer) answerWords) xs xs'
+
+-- the words of the workspace after a decision
 abbrev pub workspaceAfter : List ℕ → Request → List ℕ → List ℕ
-workspaceAfter answer a ws = cond (ltb (length answer) answerWords) ws (wordsAfter labelCount a ws)
+workspaceAfter answer a ws = unlessShort answer ws (wordsAfter labelCount a ws)
 
 -- an outcome's three words, and the later words kept
 abbrev pub answerOf : Outcome → List ℕ → List ℕ

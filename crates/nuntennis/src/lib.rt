@@ -3,13 +3,18 @@ use checks::outcomes::kind;
 use checks::outcomes::place;
 use checks::outcomes::value;
 use expression::Outcome;
+use reporting::Report;
 ghost use mathlib.Core.Path.{_≡_};
 ghost use Prim.Native.Nat.{_≤_};
 ghost use lib.ListN.{length};
 ghost use Rattle.labels.specs.Labels.{labelCount};
 ghost use Rattle.decisions.specs.Outcomes.{GroundedOutcome, PlainOutcome};
+ghost use Rattle.leaves.specs.declared.Tables.the-variants.{Pairs};
+ghost use Rattle.reports.specs.Reports.{reportOf};
+ghost use Rattle.reporting.specs.Reporting.{reportAnswer, reportBuffer, wordsReported};
 ghost use Rattle.calls.specs.Calls.{request};
-ghost use Rattle.nuntennis.specs.Answers.{answerWords, returned, workspaceAfter, answerOf, Answered};
+ghost use Rattle.nuntennis.specs.Answers.{answerWords, returned, unlessShort, workspaceAfter, answerOf, Answered};
+ghost use Rattle.nuntennis.specs.Reported.{pairsAsked, triplesAsked, reportWordsOf};
 
 // Kind, value and place.
 const ANSWER_WORDS: usize = 3;
@@ -60,6 +65,58 @@ pub extern "C" fn nuntennis_plain(
     1
 }
 
+// The report of the table of pairs after the command at the offset asked.
+#[no_mangle]
+pub extern "C" fn nuntennis_report(
+    sheet: &[u8],
+    asked: usize,
+    p: u64,
+    g: u64,
+    pins_in: u64,
+    pins_out: u64,
+    workspace: &mut [u32],
+    report: &mut [u32],
+    answer: &mut [u64],
+) -> u64
+    ensures { λ r. ⌜ r ≡ returned (now (answer .entry)) ⌝ }
+    ensures { λ r. ⌜ now (answer .exit) ≡ unlessShort (now (answer .entry)) (now (answer .entry)) (reportWordsOf (reportAnswer (reportOf Pairs) (length (now (report .entry))) asked (pairsAsked (request (now (sheet .entry)) p g (length (now (workspace .entry))) «pins_in» «pins_out») asked)) (now (answer .entry))) ⌝ }
+    ensures { λ r. ⌜ now (report .exit) ≡ unlessShort (now (answer .entry)) (now (report .entry)) (reportBuffer (reportOf Pairs) (now (report .entry)) (pairsAsked (request (now (sheet .entry)) p g (length (now (workspace .entry))) «pins_in» «pins_out») asked)) ⌝ }
+    ensures { λ r. ⌜ now (workspace .exit) ≡ unlessShort (now (answer .entry)) (now (workspace .entry)) (wordsReported labelCount (request (now (sheet .entry)) p g (length (now (workspace .entry))) «pins_in» «pins_out») asked (now (workspace .entry))) ⌝ }
+{
+    if answer.len() < ANSWER_WORDS {
+        return 0;
+    }
+    let r = report_calls::report(sheet, asked, p, g, pins_in, pins_out, workspace, report);
+    write_report(answer, r);
+    1
+}
+
+// The report of the plain table there.
+#[no_mangle]
+pub extern "C" fn nuntennis_plain_report(
+    sheet: &[u8],
+    asked: usize,
+    p: u64,
+    g: u64,
+    pins_in: u64,
+    pins_out: u64,
+    workspace: &mut [u32],
+    report: &mut [u32],
+    answer: &mut [u64],
+) -> u64
+    ensures { λ r. ⌜ r ≡ returned (now (answer .entry)) ⌝ }
+    ensures { λ r. ⌜ now (answer .exit) ≡ unlessShort (now (answer .entry)) (now (answer .entry)) (reportWordsOf (reportAnswer (λ t. t) (length (now (report .entry))) asked (triplesAsked (request (now (sheet .entry)) p g (length (now (workspace .entry))) «pins_in» «pins_out») asked)) (now (answer .entry))) ⌝ }
+    ensures { λ r. ⌜ now (report .exit) ≡ unlessShort (now (answer .entry)) (now (report .entry)) (reportBuffer (λ t. t) (now (report .entry)) (triplesAsked (request (now (sheet .entry)) p g (length (now (workspace .entry))) «pins_in» «pins_out») asked)) ⌝ }
+    ensures { λ r. ⌜ now (workspace .exit) ≡ unlessShort (now (answer .entry)) (now (workspace .entry)) (wordsReported labelCount (request (now (sheet .entry)) p g (length (now (workspace .entry))) «pins_in» «pins_out») asked (now (workspace .entry))) ⌝ }
+{
+    if answer.len() < ANSWER_WORDS {
+        return 0;
+    }
+    let r = report_calls::plain_report(sheet, asked, p, g, pins_in, pins_out, workspace, report);
+    write_report(answer, r);
+    1
+}
+
 // An outcome's three words; later words keep their values.
 fn write_answer(answer: &mut [u64], o: Outcome)
     requires { ⌜ answerWords ≤ length (now answer) ⌝ }
@@ -68,4 +125,19 @@ fn write_answer(answer: &mut [u64], o: Outcome)
     answer[0] = kind(o);
     answer[1] = value(o);
     answer[2] = place(o);
+}
+
+// A report's three words; a refusal is written as that of a decision.
+fn write_report(answer: &mut [u64], r: Report)
+    requires { ⌜ answerWords ≤ length (now answer) ⌝ }
+    ensures { λ _. ⌜ now (answer .exit) ≡ reportWordsOf r (now (answer .entry)) ⌝ }
+{
+    match r {
+        Report::Written(entries, words) => {
+            answer[0] = 1;
+            answer[1] = entries;
+            answer[2] = words;
+        }
+        Report::Refused(number, at) => write_answer(answer, Outcome::Refused(number, at)),
+    }
 }
