@@ -1,6 +1,6 @@
--- Laws of the last start, of a report's pairs one after the other, and of what a report leaves. Assumes nothing.
+-- Laws of a refusal by either decision, of the last start, of a report's pairs one after the other, and of what a report leaves. Assumes nothing.
 use mathlib.Core.Path.{_≡_, refl, sym, ap, _∙_}
-use mathlib.Core.Bool.{Bool, true, false, cond}
+use mathlib.Core.Bool.{Bool, true, false, cond, _||_}
 use mathlib.Core.List.{List, [], _∷_, _++_, append-assoc}
 use Prim.Native.Nat.{ℕ, zero, suc, _+_, _-_, _≤_, _<_}
 use native.Mathlib.Omega.{arith}
@@ -11,14 +11,37 @@ use Rattle.expression.specs.declared.Command.{Command}
 use Rattle.expression.specs.declared.Read.the-variants.{Command as Got, Fault}
 use Rattle.expression.specs.Refusals.{reportShort}
 use Rattle.expression.specs.Commands.{readAt}
+use Rattle.expression.specs.declared.Outcome.{Outcome}
+use Rattle.expression.specs.Checks.{Request}
 use Rattle.expression.proofs.Commands.{read-ends}
 use Rattle.tables.specs.Definitions.{Pair, ownTriple, subsets}
+use Rattle.decisions.specs.Decisions.{Verdict, affirmed, denied, refused, grounded, plain}
+use Rattle.decisions.specs.Outcomes.{verdictOf, withoutMask, GroundedOutcome, PlainOutcome}
 use Rattle.leaves.specs.declared.Tables.the-variants.{Pairs}
 use Rattle.reports.specs.Reports.{entryWords, reportOf}
 use Rattle.reporting.specs.declared.Report.{Report}
 use Rattle.reporting.specs.declared.Report.the-variants.{Written, Refused}
 use Rattle.reporting.specs.Reporting.{Asked, refusedAt, tableAt, reportAnswer, reportBuffer}
-use Rattle.listing.specs.Listing.{lastFrom, lastStart, PairsFrom}
+use Rattle.listing.specs.Listing.{isRefusal, eitherRefused, lastFrom, lastStart, PairsFrom}
+
+-- ---- a refusal by either decision
+
+module _ (K : ℕ) (a : Request) (o : Outcome) (q : Bool) (g : GroundedOutcome K a o) (h : q ≡ isRefusal (verdictOf o)) where
+  grounded-is : q ≡ isRefusal (grounded K a)
+  grounded-is = h ∙ ap isRefusal (g .verdict)
+
+  pub first-refused : q ≡ true → true ≡ eitherRefused K a
+  first-refused t = ap (λ (b : Bool). b || isRefusal (plain K a)) (sym t ∙ grounded-is)
+
+  pub second-refused : (b : Request) (p : Outcome) (r : Bool) → q ≡ false → b ≡ a → PlainOutcome K b p → r ≡ isRefusal (verdictOf p) → r ≡ eitherRefused K a
+  second-refused b p r f e w l =
+      l ∙ ap (λ (x : Outcome). isRefusal (verdictOf x)) (w .outcome) ∙ unmasked (plain K b) ∙ ap (λ (x : Request). isRefusal (plain K x)) e
+      ∙ ap (λ (x : Bool). x || isRefusal (plain K a)) (sym f ∙ grounded-is)
+    where
+      unmasked : (v : Verdict) → isRefusal (verdictOf (withoutMask v)) ≡ isRefusal v
+      unmasked affirmed = refl
+      unmasked denied = refl
+      unmasked (refused n at) = refl
 
 -- ---- the last start
 

@@ -4,7 +4,9 @@ ghost use mathlib.Core.Path.{_≡_};
 ghost use Prim.Native.Nat.{_≤_, _<_};
 ghost use lib.ListN.{length};
 ghost use Rattle.labels.specs.Labels.{labelCount};
-ghost use Rattle.listing.specs.Listing.{lastStart, PairsFrom};
+ghost use Rattle.decisions.specs.Outcomes.{verdictOf};
+ghost use Rattle.calls.specs.Calls.{request};
+ghost use Rattle.listing.specs.Listing.{isRefusal, eitherRefused, lastStart, PairsFrom};
 use calls::grounded;
 use calls::plain;
 use checks::outcomes::kind;
@@ -13,6 +15,8 @@ use checks::outcomes::value;
 use commands::reading::read_at;
 use expression::Outcome;
 use expression::Read;
+use expression::limits::BYTE_LIMIT;
+use expression::limits::DEPTH_LIMIT;
 use libc::STDIN_FILENO;
 use libc::STDOUT_FILENO;
 use report_calls::report;
@@ -20,6 +24,15 @@ use reporting::Report;
 
 // Of pairs, and of subsets in a pair.
 const LIMIT: u64 = 32;
+
+// A row's words: a triple, a count and the subsets.
+const WIDTH: usize = LIMIT as usize + 2;
+
+// A table's words.
+const AREA: usize = LIMIT as usize * WIDTH;
+
+// One area for each table, and scratch.
+const AREAS: usize = DEPTH_LIMIT as usize + 1;
 
 // ---- text; the byte strings stand apart from the loops
 
@@ -90,7 +103,7 @@ fn last_start(s: &[u8]) -> usize
     }
 }
 
-// The table that the decision was made from; the buffer has room for the largest.
+// The table that the grounded decision was made from; it met the limits, so that a buffer of one area has room for it.
 fn print_table(s: &[u8], ws: &mut [u32], words: &mut [u32]) {
     let r = report(s, last_start(s), LIMIT, LIMIT, 0, 0, ws, words);
     let Report::Written(n, _) = r else {
@@ -104,19 +117,30 @@ fn print_table(s: &[u8], ws: &mut [u32], words: &mut [u32]) {
 
 // ---- the decisions
 
-fn is_refused(o: Outcome) -> bool {
-    kind(o) == 2
+fn is_refused(o: Outcome) -> bool
+    ensures { λ r. ⌜ r ≡ isRefusal (verdictOf o) ⌝ }
+{
+    match o {
+        Outcome::Yes(_) => false,
+        Outcome::No => false,
+        Outcome::Refused(_, _) => true,
+    }
 }
 
 // Prints both decisions, and says whether either refused.
-fn print_decisions(s: &[u8], ws: &mut [u32]) -> bool {
+fn print_decisions(s: &[u8], ws: &mut [u32]) -> bool
+    ensures { λ r. ⌜ r ≡ eitherRefused labelCount (request (now (s .entry)) 32 32 (length (now (ws .entry))) 0 0) ⌝ }
+{
     let a = grounded(s, LIMIT, LIMIT, 0, 0, ws);
     io::write_all(STDOUT_FILENO, b"answer ");
     print_outcome(a);
     let b = plain(s, LIMIT, LIMIT, 0, 0, ws);
     io::write_all(STDOUT_FILENO, b"plain ");
     print_outcome(b);
-    is_refused(a) || is_refused(b)
+    if is_refused(a) {
+        return true;
+    }
+    is_refused(b)
 }
 
 fn print_listing(s: &[u8], ws: &mut [u32], words: &mut [u32]) {
@@ -126,16 +150,16 @@ fn print_listing(s: &[u8], ws: &mut [u32], words: &mut [u32]) {
     print_table(s, ws, words);
 }
 
-// A workspace of 9 areas of 32 rows, each of 34 words, and a buffer of one.
+// The words that tables need, and a buffer for the largest of them.
 fn list(s: &[u8]) {
-    let mut ws = [0u32; 9792];
-    let mut words = [0u32; 1088];
+    let mut ws = [0u32; AREAS * AREA];
+    let mut words = [0u32; AREA];
     print_listing(s, &mut ws, &mut words);
 }
 
 // One byte more is read than a sheet may have, so that 1 can be said.
 fn main() {
-    let mut bytes = [0u8; 4097];
+    let mut bytes = [0u8; BYTE_LIMIT + 1];
     let n = io::read_full(STDIN_FILENO, &mut bytes);
     list(&bytes[..n]);
 }
