@@ -2,16 +2,13 @@
 use checks::checking::check;
 use expression::Checked;
 use expression::Outcome;
-use expression::limits::DEPTH_LIMIT;
+use walks::AREAS;
 ghost use mathlib.Core.Path.{_≡_};
 ghost use lib.ListN.{length};
 ghost use Rattle.labels.specs.Labels.{labelCount};
 ghost use Rattle.decisions.specs.Outcomes.{GroundedOutcome, PlainOutcome};
 ghost use Rattle.engine.specs.Engine.{wordsAfter};
 ghost use Rattle.calls.specs.Calls.{request};
-
-// The words that tables need (01: 3, cramped).
-const AREAS: usize = DEPTH_LIMIT as usize + 1;
 
 // The grounded decision. The verdict is the definition's; yes shows an answer set of the expression's rules that obeys the assumptions, and no says that
 // there is none (demand 3). The workspace is untouched where a check refuses, else its needed words are zero.

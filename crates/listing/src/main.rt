@@ -16,11 +16,11 @@ use commands::reading::read_at;
 use expression::Outcome;
 use expression::Read;
 use expression::limits::BYTE_LIMIT;
-use expression::limits::DEPTH_LIMIT;
 use libc::STDIN_FILENO;
 use libc::STDOUT_FILENO;
 use report_calls::report;
 use reporting::Report;
+use walks::AREAS;
 
 // Of pairs, and of subsets in a pair.
 const LIMIT: u64 = 32;
@@ -30,9 +30,6 @@ const WIDTH: usize = LIMIT as usize + 2;
 
 // A table's words.
 const AREA: usize = LIMIT as usize * WIDTH;
-
-// One area for each table, and scratch.
-const AREAS: usize = DEPTH_LIMIT as usize + 1;
 
 // ---- text; the byte strings stand apart from the loops
 

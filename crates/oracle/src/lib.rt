@@ -1,5 +1,6 @@
 // Document 01 by enumeration, from the meaning of the rules alone: what a small sheet says, its tables and its answers. For testing the engine
-// against; slow and simple. It shares with the engine the limits' and refusals' numbers and no function or definition of tables.
+// against; slow and simple. It shares with the engine the limits' and refusals' numbers and no function or definition of tables. What a rule and pins
+// mean is proved (crate meaning); all else here is proved to stay within bounds and to end, and is right as far as it is tried (crate trials).
 pub mod answers;
 pub mod checking;
 pub mod generator;

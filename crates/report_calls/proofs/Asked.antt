@@ -121,8 +121,8 @@ module _ (a : Request) (at : ℕ) where
     abbrev W : Walked Entry
     W = walkTo Pairs Nothing (byMasks (a .assumedTrue) (a .assumedFalse)) (a .subsetLimit + 2) (a .pairLimit) (at + 1) (a .bytes)
 
-    abbrev flatly : Walked Entry
-    flatly = walkTo Plain Nothing (byMasks (a .assumedTrue) (a .assumedFalse)) 2 (a .pairLimit) (at + 1) (a .bytes)
+    abbrev plainTables : Walked Entry
+    plainTables = walkTo Plain Nothing (byMasks (a .assumedTrue) (a .assumedFalse)) 2 (a .pairLimit) (at + 1) (a .bytes)
 
     abbrev words : List Entry → List ℕ
     words x = reportOf Pairs (pairsOf x)
@@ -146,14 +146,14 @@ module _ (a : Request) (at : ℕ) where
     plain-asked : newestIn T ≡ askedTable (triples labelCount) (plainFault (a .pairLimit)) labelCount a at
     plain-asked = sym (asked-walk (triples labelCount) (plainFault (a .pairLimit)) passed starts)
 
-    pub plain-answer : (room : ℕ) → reportAnswer plainly room at (newestIn flatly) ≡ reportAnswer (λ t. t) room at (askedTable (triples labelCount) (plainFault (a .pairLimit)) labelCount a at)
+    pub plain-answer : (room : ℕ) → reportAnswer plainly room at (newestIn plainTables) ≡ reportAnswer (λ t. t) room at (askedTable (triples labelCount) (plainFault (a .pairLimit)) labelCount a at)
     plain-answer room =
-        answer-mapped (λ (x : Entry). x .item) plainly (reportOf Plain) (λ t. refl) room at flatly ∙ ap (λ (v : Walked Pair). reportAnswer (reportOf Plain) room at (newestIn v)) (sym plain-walk)
+        answer-mapped (λ (x : Entry). x .item) plainly (reportOf Plain) (λ t. refl) room at plainTables ∙ ap (λ (v : Walked Pair). reportAnswer (reportOf Plain) room at (newestIn v)) (sym plain-walk)
         ∙ sym (answer-mapped single (λ t. t) (reportOf Plain) plain-words room at T) ∙ ap (reportAnswer (λ t. t) room at) plain-asked
 
-    pub plain-buffer : (out : List ℕ) → reportBuffer plainly out (newestIn flatly) ≡ reportBuffer (λ t. t) out (askedTable (triples labelCount) (plainFault (a .pairLimit)) labelCount a at)
+    pub plain-buffer : (out : List ℕ) → reportBuffer plainly out (newestIn plainTables) ≡ reportBuffer (λ t. t) out (askedTable (triples labelCount) (plainFault (a .pairLimit)) labelCount a at)
     plain-buffer out =
-        buffer-mapped (λ (x : Entry). x .item) plainly (reportOf Plain) (λ t. refl) out flatly ∙ ap (λ (v : Walked Pair). reportBuffer (reportOf Plain) out (newestIn v)) (sym plain-walk)
+        buffer-mapped (λ (x : Entry). x .item) plainly (reportOf Plain) (λ t. refl) out plainTables ∙ ap (λ (v : Walked Pair). reportBuffer (reportOf Plain) out (newestIn v)) (sym plain-walk)
         ∙ sym (buffer-mapped single (λ t. t) (reportOf Plain) plain-words out T) ∙ ap (reportBuffer (λ t. t) out) plain-asked
 
 -- ---- where commands start

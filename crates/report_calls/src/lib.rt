@@ -3,10 +3,10 @@ use checks::checking::check;
 use checks::locating::locate;
 use expression::Checked;
 use expression::Located;
-use expression::limits::DEPTH_LIMIT;
 use expression::refusals::OFFSET;
 use leaves::Tables;
 use reporting::Report;
+use walks::AREAS;
 ghost use mathlib.Core.Path.{_≡_};
 ghost use lib.ListN.{length};
 ghost use Rattle.labels.specs.Labels.{labelCount};
@@ -17,9 +17,6 @@ ghost use Rattle.reports.specs.Reports.{reportOf};
 ghost use Rattle.reporting.specs.Reporting.{startsAt, askedTable, reportAnswer, reportBuffer, wordsReported};
 ghost use Rattle.calls.specs.Calls.{request};
 ghost use Rattle.report_calls.specs.ReportCalls.{refusedReport};
-
-// One area for each table, and scratch.
-const AREAS: usize = DEPTH_LIMIT as usize + 1;
 
 // Whether a command starts at the offset asked.
 fn starts_at(s: &[u8], asked: usize) -> bool

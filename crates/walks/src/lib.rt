@@ -35,7 +35,7 @@ pub enum Reached {
 }
 
 // One area for each table, and scratch.
-const AREAS: usize = DEPTH_LIMIT as usize + 1;
+pub const AREAS: usize = DEPTH_LIMIT as usize + 1;
 
 // 15 or 16, by the count that a command answers.
 fn fault_of(p: usize, r: usize) -> u64
