@@ -1,0 +1,5 @@
+pub mod Formed
+pub mod Preserved
+pub mod Held
+pub mod Walking
+pub mod Walks
