@@ -1,14 +1,14 @@
 -- What words of the form hold: they are the words of the tables that stand there, and those tables are sound. Assumes nothing.
 use mathlib.Core.Path.{_≡_, refl, sym, ap, ap₂, _∙_}
-use mathlib.Core.Bool.{Bool, true, false, _&&_, false≢true}
+use mathlib.Core.Bool.{true, false, false≢true}
 use mathlib.Core.List.{List, [], _∷_, _++_, append-assoc, append-nil}
-use Prim.Native.Nat.{ℕ, zero, suc, _+_, _-_, _*_, _^_, _≤_, _<_}
-use native.Mathlib.Nat.{zero-mul, suc-mul, le-of-suc-le-suc, not-suc-le-zero}
+use Prim.Native.Nat.{ℕ, zero, suc, _+_, _-_, _*_, _^_, _≤_}
+use native.Mathlib.Nat.{zero-mul, le-of-suc-le-suc, not-suc-le-zero}
 use native.Mathlib.Omega.{arith}
 use lib.Dec.{eqb, ltb, leb}
-use lib.ListN.{length, take, drop, getD, getD-replicate, length-append, length-take, length-drop, take-append-drop}
+use lib.ListN.{length, take, drop, getD, getD-replicate, length-append, length-drop, take-append-drop}
 use lib.Seq.{length-take-le, take-take, take-add, drop-at}
-use borrow.Author.Tests.{eqb-true, ltb-true, leb-true}
+use borrow.Author.Tests.{eqb-true, leb-true}
 use Rattle.lists.specs.declared.Order.{Order}
 use Rattle.lists.specs.declared.Order.the-variants.{Less, Same, More}
 use Rattle.lists.specs.Lists.{every, All}
@@ -18,8 +18,8 @@ use Rattle.lists.proofs.Comparisons.{Lawful, numbers-lawful, lists-lawful}
 use Rattle.tables.specs.Definitions.{Pair, subsets}
 use Rattle.candidates.specs.Candidates.{pairOf, Readable}
 use Rattle.rows.specs.Parts.{zeros}
-use Rattle.rows.specs.Rows.{rowOf, Fit, tableOf, rowsIn, IsRow}
-use Rattle.rows.proofs.Parts.{drop-zeros, zeros-long}
+use Rattle.rows.specs.Rows.{Fit, tableOf, rowsIn, IsRow}
+use Rattle.rows.proofs.Parts.{drop-zeros}
 use Rattle.rows.proofs.Single.{read-fits, stored-long, zeros-row}
 use Rattle.rows.proofs.Tables.{length-rowsIn}
 use Rattle.workspace.specs.Workspace.{stackWords, workspaceOf, Sound, stackCounts}
@@ -61,7 +61,7 @@ module _ {A : Type 0} {cmp : A → A → Order} {merge : A → A → A} (L : Law
 
 -- ---- a row
 
-module _ (K w : ℕ) (row : List ℕ) (h : isRow K row ≡ true) where
+module _ (K : ℕ) (row : List ℕ) (h : isRow K row ≡ true) where
   parts : Readable row × (isRising compareNumbers (subsets (pairOf row)) ≡ true) × (areZero (drop (2 + getD row 1 0) row) ≡ true)
   unfolding isRow
   parts =
@@ -77,8 +77,8 @@ module _ (K w : ℕ) (row : List ℕ) (h : isRow K row ≡ true) where
   row-ordered = rising-is numbers-lawful (subsets (pairOf row)) (parts .1)
 
   -- it is what a row of zeros becomes when its pair is stored there
-  pub row-is : length row ≡ w → IsRow w row
-  row-is e =
+  pub row-is : (w : ℕ) → length row ≡ w → IsRow w row
+  row-is w e =
       let n : ℕ = 2 + getD row 1 0 in
       let two : 2 ≤ w = omega (arith, parts .0, e) in
       let back : drop n row ≡ drop (length (take n row)) (zeros w) =
@@ -104,11 +104,11 @@ module _ (K w : ℕ) where
   rows-are (suc n) (suc p) area h l e =
       let b = and-both (isRow K (take w area)) (areRows K w n (drop w area)) h in
       let f : length (take w area) ≡ w = length-take-le w area (omega (arith, e, area-less p w)) in
-      let r : IsRow w (take w area) = row-is K w (take w area) (b .0) f in
+      let r : IsRow w (take w area) = row-is K (take w area) (b .0) w f in
       let t = rows-are n p (drop w area) (b .1) (le-of-suc-le-suc l) (length-drop w area ∙ omega (arith, e, area-less p w)) in (
         sym (take-append-drop w area) ∙ ap₂ (λ (x : List ℕ) (y : List ℕ). x ++ y) (r .words) (t .0),
         (r .fit, t .1),
-        (row-ordered K w (take w area) (b .0), t .2),
+        (row-ordered K (take w area) (b .0), t .2),
       )
 
   module _ (p n : ℕ) (area : List ℕ) (h : isTable K w p n area ≡ true) where
