@@ -1,5 +1,9 @@
 .PHONY: test check
 
+# rt waits for all that it started together, so on two cores four at a time leave less of them idle.
+RT_JOBS ?= 4
+export RT_JOBS
+
 # The gate: the library's C tests, then every crate proved from nothing, every must-fail edit refused, every program run.
 test: c-test
 	@rt ci

@@ -63,7 +63,9 @@ install: $(ARCHIVE)
 	install -m 644 include/nuntennis.h $(DESTDIR)$(PREFIX)/include/nuntennis.h
 	sed -e 's|@PREFIX@|$(PREFIX)|' -e 's|@VERSION@|$(C_VERSION)|' nuntennis.pc.in > $(DESTDIR)$(PREFIX)/lib/pkgconfig/nuntennis.pc
 
+# rt staticlib proves one crate after the other; rt check proves those of one level side by side.
 target/staticlib/libnuntennis.a: FORCE
+	@rt check nuntennis | grep '^rt:'
 	rt staticlib nuntennis
 
 FORCE:

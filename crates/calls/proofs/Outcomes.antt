@@ -29,7 +29,8 @@ use Rattle.leaves.specs.Leaves.{algebraOf}
 use Rattle.answers.proofs.Accepting.{none-denies, worth-affirms}
 use Rattle.walks.specs.Walks.{walkTo}
 use Rattle.walks.proofs.Whole.{whole-walk}
-use Rattle.engine.specs.Engine.{cleared, wordsAfter, Decides, shownOutcome, plainOutcome}
+use Rattle.stacks.specs.Stacks.{cleared}
+use Rattle.engine.specs.Engine.{wordsAfter, Decides, shownOutcome, plainOutcome}
 
 module _ (a : Request) where
   -- ---- a check refuses

@@ -1,52 +1,28 @@
--- A decision from the cleared workspace to the last table. Assumes nothing.
-use mathlib.Core.Path.{_≡_, refl, sym, ap, ap₂, _∙_, subst}
-use mathlib.Core.List.{List, [], _∷_, _++_, append-assoc}
-use Prim.Native.Nat.{ℕ, _+_, _-_, _*_, _≤_, _<_}
+-- What a decision finds in the last table. Assumes nothing.
+use mathlib.Core.Path.{_≡_, refl, sym, ap, _∙_}
+use mathlib.Core.List.{List}
+use Prim.Native.Nat.{ℕ, _+_, _-_, _*_, _≤_}
 use native.Mathlib.Omega.{arith}
-use lib.ListN.{length, drop}
+use lib.ListN.{length}
 use Rattle.expression.specs.Limits.{depthLimit}
 use Rattle.semantics.specs.AnswerSets.{Assumptions}
 use Rattle.decisions.specs.Decisions.{newest, walked}
-use Rattle.rows.specs.Parts.{part, zeros}
+use Rattle.rows.specs.Parts.{part}
 use Rattle.rows.specs.Rows.{Rows}
-use Rattle.rows.proofs.Parts.{zeros-append}
 use Rattle.entries.specs.declared.Carry.{Carry}
 use Rattle.entries.specs.declared.Carry.the-variants.{Nothing, First}
 use Rattle.entries.specs.Carries.{Entry, Beside}
 use Rattle.making.specs.Making.{entriesAt}
 use Rattle.leaves.specs.declared.Tables.{Tables}
-use Rattle.workspace.specs.Workspace.{workspaceOf, stackCounts, countsOf, valuesFrom}
+use Rattle.workspace.specs.Workspace.{valuesFrom}
 use Rattle.stacks.specs.Stacks.{countBelow}
-use Rattle.stacks.proofs.Clearing.{workspace-none, cleared-holds}
 use Rattle.operations.proofs.Loads.{Stands as Operand, newer-stands, stands-rows, stands-few, stands-entries}
 use Rattle.answers.specs.declared.Found.{Found}
 use Rattle.answers.specs.declared.Found.the-variants as found
 use Rattle.answers.specs.Answers.{totalOf}
 use Rattle.walks.specs.Walks.{Stands, walkTo}
 use Rattle.walks.proofs.Advancing.{loaded}
-use Rattle.engine.specs.Engine.{cleared, leastOf, Decides, valueOutcome}
-
--- ---- the words needed, of which the areas take a part
-
-module _ (w p need : ℕ) (ws : List ℕ) (within : (depthLimit + 1) * (p * w) ≤ need) where
-  -- what stands behind the areas
-  abbrev pub behind : List ℕ
-  behind = zeros (need - (depthLimit + 1) * (p * w)) ++ drop need ws
-
-  areas-clear : workspaceOf (depthLimit + 1) w p [] behind ≡ cleared need ws
-  areas-clear =
-      let k = (depthLimit + 1) * (p * w) in
-      workspace-none (depthLimit + 1) w p behind ∙ sym (append-assoc (zeros k) (zeros (need - k)) (drop need ws))
-      ∙ ap (λ (u : List ℕ). u ++ drop need ws) (zeros-append k (need - k) ∙ ap zeros (let z : k + (need - k) ≡ need = omega arith in z))
-
-  pub stands-clear : (carry : Carry) (ws' vals counts : List ℕ) → ws' ≡ cleared need ws → counts ≡ zeros depthLimit → Stands carry (depthLimit + 1) w p [] behind ws' vals counts
-  unfolding countsOf stackCounts
-  stands-clear carry ws' vals counts e f = record { holds = cleared-holds carry (depthLimit + 1) w p behind ws' vals (e ∙ sym areas-clear) (omega arith); tallies = f }
-
-  pub all-clear : (ws' : List ℕ) → ws' ≡ workspaceOf (depthLimit + 1) w p [] behind → ws' ≡ cleared need ws
-  all-clear ws' e = e ∙ areas-clear
-
--- ---- the last table
+use Rattle.engine.specs.Engine.{leastOf, Decides, valueOutcome}
 
 module _ {carry : Carry} {w p : ℕ} {us : List (List Entry)} {beyond ws vals counts : List ℕ} (h : Stands carry (depthLimit + 1) w p us beyond ws vals counts) (t : ℕ) (e : length us ≡ t) (one : t ≡ 1)
     (n : ℕ) (en : n ≡ countBelow t 1 counts) where

@@ -1,8 +1,8 @@
 -- What a decision leaves and answers, on the way to its outcome. Assumes nothing.
 use mathlib.Core.Path.{_≡_}
-use mathlib.Core.List.{List, _++_}
+use mathlib.Core.List.{List}
 use Prim.Native.Nat.{ℕ}
-use lib.ListN.{length, drop}
+use lib.ListN.{length}
 use Rattle.labels.specs.Labels.{labelCount}
 use Rattle.expression.specs.declared.Checked.{Checked}
 use Rattle.expression.specs.declared.Checked.the-variants as checked
@@ -15,18 +15,14 @@ use Rattle.tables.specs.Definitions.{accepting}
 use Rattle.values.specs.Values.{Total, none, worth, sumBy}
 use Rattle.values.specs.First.{firsts, passing, shownBy}
 use Rattle.decisions.specs.Decisions.{newest, stopped, walked}
-use Rattle.rows.specs.Parts.{zeros}
 use Rattle.entries.specs.declared.Carry.{Carry}
 use Rattle.entries.specs.declared.Carry.the-variants.{Nothing, First}
 use Rattle.entries.specs.Carries.{Entry}
 use Rattle.leaves.specs.declared.Tables.{Tables}
+use Rattle.stacks.specs.Stacks.{cleared}
 use Rattle.answers.specs.declared.Found.{Found}
 use Rattle.answers.specs.declared.Found.the-variants as found
 use Rattle.walks.specs.Walks.{walkTo}
-
--- the words with zeros over the first n
-abbrev pub cleared : ℕ → List ℕ → List ℕ
-cleared n ws = zeros n ++ drop n ws
 
 -- 01, Outcomes: a refusal by a check changes no buffer; after any other outcome the words needed are zero and the rest is untouched
 unfoldable pub wordsAfter : ℕ → Request → List ℕ → List ℕ

@@ -19,7 +19,8 @@ ghost use Rattle.entries.specs.Carries.{Beside, Kept};
 ghost use Rattle.entries.specs.declared.Carry.the-variants.{Nothing, First};
 ghost use Rattle.leaves.specs.declared.Tables.the-variants.{Plain, Pairs};
 ghost use Rattle.leaves.specs.Leaves.{Wide};
-ghost use Rattle.engine.specs.Engine.{cleared, valueOutcome, shownOutcome, plainOutcome, refusalOutcome, valueWords, Decides};
+ghost use Rattle.stacks.specs.Stacks.{cleared};
+ghost use Rattle.engine.specs.Engine.{valueOutcome, shownOutcome, plainOutcome, refusalOutcome, valueWords, Decides};
 
 // Yes with the least value, or no.
 fn outcome_of(found: Found) -> Outcome

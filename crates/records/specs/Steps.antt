@@ -22,7 +22,7 @@ use Rattle.tables.specs.Algebras.{tables}
 use Rattle.tables.specs.Definitions.{Pair, pairs, groundedAccepts}
 use Rattle.decisions.specs.Decisions.{assumed, pairsFault, newest}
 use Rattle.workspace.specs.Workspace.{workspaceOf, countsOf}
-use Rattle.engine.specs.Engine.{cleared}
+use Rattle.stacks.specs.Stacks.{cleared}
 use Rattle.forms.specs.Forms.{areZero, areTables, tablesIn}
 use Rattle.records.specs.declared.Record.{Record}
 use Rattle.records.specs.declared.Progress.{Progress}

@@ -33,7 +33,7 @@ use Rattle.leaves.specs.Leaves.{algebraOf, tableAlgebra}
 use Rattle.workspace.specs.Workspace.{pairsOf}
 use Rattle.walks.specs.Walks.{before, walkTo}
 use Rattle.reports.specs.Reports.{entryWords, reportOf}
-use Rattle.engine.specs.Engine.{cleared}
+use Rattle.stacks.specs.Stacks.{cleared}
 use Rattle.reporting.specs.declared.Report.{Report}
 use Rattle.reporting.specs.declared.Report.the-variants.{Refused}
 use Rattle.reporting.specs.Reporting.{isBefore, startsAt, Asked, refusedAt, tableAt, newestIn, askedTable, reportAnswer, reportBuffer, wordsReported}

@@ -15,7 +15,7 @@ use Rattle.expression.specs.Places.{locate}
 use Rattle.tables.specs.Algebras.{Algebra, tables}
 use Rattle.decisions.specs.Decisions.{assumed, commandsIn, newest, Walked, stopped, walked, walk}
 use Rattle.walks.specs.Walks.{before}
-use Rattle.engine.specs.Engine.{cleared}
+use Rattle.stacks.specs.Stacks.{cleared}
 use Rattle.reporting.specs.declared.Report.{Report}
 use Rattle.reporting.specs.declared.Report.the-variants.{Written, Refused}
 

@@ -21,7 +21,7 @@ ghost use Rattle.decisions.specs.Decisions.{newest};
 ghost use Rattle.workspace.specs.Workspace.{pairsOf};
 ghost use Rattle.walks.specs.Walks.{Stands, walkTo};
 ghost use Rattle.reports.specs.Reports.{reportOf};
-ghost use Rattle.engine.specs.Engine.{cleared};
+ghost use Rattle.stacks.specs.Stacks.{cleared};
 ghost use Rattle.reporting.specs.Reporting.{tableAt, newestIn, reportAnswer, reportBuffer};
 
 // How many entries and words were written; or a refusal with its number and place.

@@ -1,15 +1,20 @@
 -- How many entries each table of a stack has, beside its workspace (01, "One command a call"). Assumes nothing.
 use mathlib.Core.Path.{_≡_}
 use mathlib.Core.Bool.{cond}
-use mathlib.Core.List.{List}
+use mathlib.Core.List.{List, _++_}
 use Prim.Native.Nat.{ℕ, _-_, _≤_, _<_}
 use lib.Dec.{ltb}
-use lib.ListN.{length, getD, set}
+use lib.ListN.{length, drop, getD, set}
 use Rattle.lists.specs.Lists.{All}
 use Rattle.expression.specs.declared.Command.{Command}
 use Rattle.expression.specs.declared.Command.the-variants.{Atom, Rule, Union, Relabel, Connect}
 use Rattle.tables.specs.Definitions.{Pair}
+use Rattle.rows.specs.Parts.{zeros}
 use Rattle.workspace.specs.Workspace.{workspaceOf, Sound, countsOf}
+
+-- the words with zeros over the first n
+abbrev pub cleared : ℕ → List ℕ → List ℕ
+cleared n ws = zeros n ++ drop n ws
 
 -- the count of the k-th newest of t tables; 0 where there is none
 abbrev pub countBelow : ℕ → ℕ → List ℕ → ℕ

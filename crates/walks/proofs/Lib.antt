@@ -2,3 +2,4 @@ pub mod Steps
 pub mod Going
 pub mod Whole
 pub mod Advancing
+pub mod Clear

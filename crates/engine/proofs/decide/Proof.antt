@@ -13,7 +13,8 @@ use Rattle.walks.specs.declared.Reached.the-variants.{Stopped, Through}
 use Rattle.walks.specs.Walks.{Stands, Reaches}
 use Rattle.walks.proofs.Advancing.{beside-as, counts-reach}
 use Rattle.engine.specs.Engine.{leastOf, Decides}
-use Rattle.engine.proofs.Deciding.{behind, stands-clear, all-clear, last-rows, last-beside, last-entries, found-decides}
+use Rattle.walks.proofs.Clear.{behind, stands-clear, all-clear}
+use Rattle.engine.proofs.Deciding.{last-rows, last-beside, last-entries, found-decides}
 use borrow.Author.Needs.{needs}
 use native.Mathlib.Omega.{arith}
 use borrow.Author.Needs.{needs}

@@ -15,7 +15,7 @@ use Rattle.walks.specs.declared.Reached.{Reached}
 use Rattle.walks.specs.declared.Reached.the-variants.{Through}
 use Rattle.walks.specs.Walks.{Stands, Reaches}
 use Rattle.reports.specs.Reports.{reportOf}
-use Rattle.engine.proofs.Deciding.{behind, stands-clear, all-clear}
+use Rattle.walks.proofs.Clear.{behind, stands-clear, all-clear}
 use Rattle.reporting.specs.Reporting.{newestIn, reportAnswer, reportBuffer}
 use borrow.Author.Needs.{needs}
 use native.Mathlib.Omega.{arith}
