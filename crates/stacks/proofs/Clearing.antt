@@ -44,7 +44,7 @@ unfolding stackCounts
 stack-pairs [] = refl
 stack-pairs (t ∷ ts) = rw (length-map t (λ (x : Entry). x .item), stack-pairs ts)
 
-counts-pairs : (n : ℕ) (ts : List (List Entry)) → countsOf n (map pairsOf ts) ≡ countsOf n ts
+pub counts-pairs : (n : ℕ) (ts : List (List Entry)) → countsOf n (map pairsOf ts) ≡ countsOf n ts
 unfolding countsOf
 counts-pairs n ts = rw (length-map ts pairsOf, stack-pairs ts)
 

@@ -38,7 +38,7 @@ pub enum Reached {
 pub const AREAS: usize = DEPTH_LIMIT as usize + 1;
 
 // 15 or 16, by the count that a command answers.
-fn fault_of(p: usize, r: usize) -> u64
+pub fn fault_of(p: usize, r: usize) -> u64
     requires { ⌜ (p < r) × (p ≤ 1024) ⌝ }
     ensures { λ n. ⌜ n ≡ faultOf p r ⌝ }
 {

@@ -1,0 +1,104 @@
+-- `steps::advance`: a check refuses, or 18 does, or the command at its place acts.
+use mathlib.Core.Path.{_≡_, refl, sym, ap, _∙_}
+use lib.ListN.{length}
+use Rattle.labels.specs.Labels.{labelCount}
+use Rattle.expression.specs.declared.Checked.the-variants.{Passed}
+use Rattle.expression.specs.Checks.{Request, check}
+use Rattle.calls.specs.Calls.{request}
+use Rattle.steps.specs.Stepping.{refusedProgress}
+use Rattle.steps.proofs.Cases.{step-refused, step-unformed, step-formed, by-stays, by-all}
+use borrow.Author.Needs.{needs}
+use Rattle.steps.proofs.advance.Statement.{statement}
+use Rattle.steps.proofs.advance.Tie as tie
+use Rattle.checks.proofs.checking.check.Reads as check-reads
+use Rattle.steps.proofs.command.Reads as command-reads
+use Rattle.steps.proofs.formed_at.Reads as formed-at-reads
+use Rattle.steps.proofs.refusal.Reads as refusal-reads
+
+abbrev asked : tie.Start → Request
+asked s = request (s .args .s .now) (s .args .p) (s .args .g) (length (s .args .ws .now)) (s .args .assumed-true) (s .args .assumed-false)
+
+module _ (e : tie.After-enum-told) where
+  abbrev origin : tie.Start
+  origin = e .before .before .before .before .before
+
+  passed : check labelCount (asked origin) ≡ Passed (e .enum-told .given .0 .0)
+  passed = sym (e .before .before .check .ensures) ∙ e .enum-told .given .1
+
+check-requires : tie.Need-check-requires
+check-requires c κs = search needs
+
+enum-told : tie.Need-enum-told
+enum-told c = search needs
+
+enum-told-2 : tie.Need-enum-told-2
+enum-told-2 c = search needs
+
+refusal-requires : tie.Need-refusal-requires
+refusal-requires c κs = search needs
+
+returns : tie.Need-returns
+returns c =
+    let s = c .before .before .before .before .before .before in
+    let g = c .before .enum-told2 .given in
+    let h = sym (c .before .before .before .check .ensures) ∙ g .1 in
+    let f = by-stays (step-refused labelCount (asked s) (s .args .state) (s .args .ws .now) h) (c .refusal .result) (c .refusal .ensures ∙ ap refusedProgress (g .1)) in (f .0, (f .1, f .2))
+
+formed-at-requires : tie.Need-formed-at-requires
+formed-at-requires c κs =
+    let e = c .before in
+    let s = origin e in (s .args .assumed-true, s .args .assumed-false, e .enum-told .given .0 .0, passed e)
+
+enum-known-f : tie.Need-enum-known-f
+enum-known-f c = search needs
+
+enum-told-3 : tie.Need-enum-told-3
+enum-told-3 c = search needs
+
+same-length : tie.Need-same-length
+same-length c = search needs
+
+returns-2 : tie.Need-returns-2
+returns-2 c =
+    let v = c .before .before in
+    let e = v .before .before in
+    let s = origin e in
+    let h = sym (v .formed-at .ensures (s .args .assumed-true) (s .args .assumed-false)) ∙ c .enum-told3 .given .1 in
+    let f = by-stays (step-unformed labelCount (asked s) (s .args .state) (s .args .ws .now) (passed e) h) _ refl in (f .0, (f .1, f .2))
+
+command-requires : tie.Need-command-requires
+command-requires c κs =
+    let v = c .before .before .before .before in
+    let e = v .before .before in
+    let s = origin e in
+    ((e .enum-told .given .0 .0, passed e), sym (v .formed-at .ensures (s .args .assumed-true) (s .args .assumed-false)) ∙ c .before .before .f .given .1)
+
+same-length-2 : tie.Need-same-length-2
+same-length-2 c = search needs
+
+returns-3 : tie.Need-returns-3
+returns-3 c =
+    let u = c .before .before in
+    let v = u .before .before .before .before .before in
+    let e = v .before .before in
+    let s = origin e in
+    let h = sym (v .formed-at .ensures (s .args .assumed-true) (s .args .assumed-false)) ∙ u .before .before .before .f .given .1 in
+    let f = by-all (step-formed labelCount (asked s) (s .args .state) (s .args .ws .now) (passed e) h) (u .command .ensures) in (f .0, (f .1, f .2))
+
+pub advance-spec : {M : Type 1} → statement M
+advance-spec =
+    tie.close
+    (tie.spec
+    check-requires
+    enum-told
+    enum-told-2
+    refusal-requires
+    returns
+    formed-at-requires
+    enum-known-f
+    enum-told-3
+    same-length
+    returns-2
+    command-requires
+    same-length-2
+    returns-3)

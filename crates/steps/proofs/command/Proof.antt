@@ -1,0 +1,141 @@
+-- `steps::command`: there is none, or it acts and is refused or moves.
+use mathlib.Core.Path.{_≡_, refl, sym, _∙_}
+use mathlib.Core.List.{[], map}
+use Prim.Native.Nat.{ℕ, _+_}
+use native.Mathlib.Omega.{arith}
+use lib.ListN.{length, drop}
+use Rattle.labels.specs.Labels.{labelCount}
+use Rattle.expression.specs.declared.Command.{Command}
+use Rattle.expression.specs.declared.Read.the-variants.{Command as Got}
+use Rattle.expression.specs.Limits.{depthLimit, workspaceNeed}
+use Rattle.expression.specs.Checks.{Request}
+use Rattle.expression.specs.Commands.{readAt}
+use Rattle.entries.specs.declared.Carry.the-variants.{Nothing}
+use Rattle.walks.specs.Walks.{Stands, Advanced}
+use Rattle.calls.specs.Calls.{request}
+use Rattle.calls.proofs.Outcomes.{accepted}
+use Rattle.records.specs.Steps.{found, moveTo, command}
+use Rattle.steps.proofs.Cases.{command-none, command-read, by-stays, by-all}
+use Rattle.steps.proofs.Standing.{bare}
+use Rattle.steps.proofs.Forming.{stands, bare-many, suits, meets, tables-after}
+use Rattle.steps.proofs.Lengths.{eight}
+use Rattle.steps.proofs.Moving.{made, meant, refused-follows, moved-follows}
+use borrow.Author.Needs.{needs}
+use Rattle.steps.proofs.command.Statement.{statement}
+use Rattle.steps.proofs.command.Tie as tie
+use Rattle.commands.proofs.counting.counted.Reads as counted-reads
+use Rattle.commands.proofs.reading.read_at.Reads as read-at-reads
+use Rattle.steps.proofs.advance_here.Reads as advance-here-reads
+use Rattle.walks.proofs.fault_of.Reads as fault-of-reads
+
+abbrev asked : tie.Start → Request
+asked s = request (s .args .s .now) (s .args .p) (s .args .g) (length (s .args .ws .now)) (s .args .assumed-true) (s .args .assumed-false)
+
+module _ (s : tie.Start) where
+  -- the tables found stand
+  standing : Stands Nothing (depthLimit + 1) (s .args .g + 2) (s .args .p) (map bare (found labelCount (asked s) (s .args .state) (s .args .ws .now))) (drop (workspaceNeed (s .args .p) (s .args .g)) (s .args .ws .now)) (s .args .ws .now) [] (s .args .state .counts)
+  standing = stands (asked s) (s .args .state) (s .args .ws .now) (s .pre .0 .1) (s .pre .1) refl (eight (s .args .state) _ (s .good .0))
+
+  as-many : length (map bare (found labelCount (asked s) (s .args .state) (s .args .ws .now))) ≡ s .args .state .tables
+  as-many = bare-many (asked s) (s .args .state) (s .args .ws .now) (s .pre .0 .1) (s .pre .1) refl (eight (s .args .state) _ (s .good .0))
+
+-- a command was read
+module _ (e : tie.After-r) where
+  abbrev origin : tie.Start
+  origin = e .before .before .before .before .before
+
+  abbrev action : Command
+  action = e .r .given .0 .0
+
+  abbrev next : ℕ
+  next = e .r .given .0 .1 .0
+
+  read : readAt labelCount (origin .args .s .now) (origin .args .state .place) ≡ Got action next
+  read = sym (e .before .before .read-at .ensures) ∙ e .r .given .1
+
+-- it acted
+module _ (v : tie.After-advance-here) where
+  abbrev given : tie.After-r
+  given = v .before .before .before .before .before
+
+  abbrev s : tie.Start
+  s = origin given
+
+  acted : Advanced Nothing (depthLimit + 1) (s .args .g + 2) (s .args .p) (made (asked s) (s .args .n .atoms) (action given) (found labelCount (asked s) (s .args .state) (s .args .ws .now))) (drop (workspaceNeed (s .args .p) (s .args .g)) (s .args .ws .now)) (v .advance-here .result) (s .args .ws .now) (s .args .state .counts) (v .advance-here .last .0) [] (v .advance-here .last .1 .0)
+  acted = v .advance-here .ensures _ _ (standing s) (as-many s)
+
+  commands : command labelCount (asked s) (s .args .n) (s .args .state) (s .args .ws .now) ≡ moveTo labelCount (asked s) (next given) (meant (asked s) (s .args .n .atoms) (action given) (found labelCount (asked s) (s .args .state) (s .args .ws .now))) (s .args .state) (s .args .ws .now)
+  commands = command-read labelCount (asked s) (s .args .state) (s .args .ws .now) (s .args .n) (read given)
+
+read-at-requires : tie.Need-read-at-requires
+read-at-requires c κs = search needs
+
+enum-known-r : tie.Need-enum-known-r
+enum-known-r c = search needs
+
+enum-told : tie.Need-enum-told
+enum-told c = search needs
+
+returns : tie.Need-returns
+returns c =
+    let s = c .before .before .before .before .before in
+    by-stays (command-none labelCount (asked s) (s .args .state) (s .args .ws .now) (s .args .n) (sym (c .before .before .read-at .ensures) ∙ c .enum-told .given .1)) _ refl
+
+slice-aggregate-advance-here : tie.Need-slice-aggregate-advance-here
+slice-aggregate-advance-here c = search needs
+
+add-advance-here : tie.Need-add-advance-here
+add-advance-here c = let s = c .before .before .before .before .before .before .before .before .before in omega (arith, accepted (asked s) (s .pre .0 .1) .subsets .1)
+
+advance-here-requires : tie.Need-advance-here-requires
+advance-here-requires c κs =
+    let e = c .before .before .before .before in
+    let s = origin e in
+    let A = accepted (asked s) (s .pre .0 .1) in
+    let k = eight (s .args .state) _ (s .good .0) in
+    ((omega (arith, A .subsets .0), omega (arith, A .subsets .1), A .pairs .0, A .pairs .1), (suits (asked s) (s .args .state) (s .args .ws .now) (s .pre .0 .1) (s .pre .1) refl k (action e) (next e) (read e), meets (asked s) (s .args .state) (s .args .ws .now) (s .pre .0 .1) (s .pre .1) refl k (action e) (next e) (read e), (_, _, standing s, as-many s)))
+
+fault-of-requires : tie.Need-fault-of-requires
+fault-of-requires c κs =
+    let s = origin (given (c .before .before .before .before)) in (c .if1 .taken, accepted (asked s) (s .pre .0 .1) .pairs .1)
+
+same-length : tie.Need-same-length
+same-length c = search needs
+
+returns-2 : tie.Need-returns-2
+returns-2 c =
+    let v = c .before .before .before .before .before in
+    let s = origin (given v) in
+    by-all (commands v) (refused-follows (asked s) (s .args .n .atoms) (action (given v)) (found labelCount (asked s) (s .args .state) (s .args .ws .now)) (acted v) (next (given v)) (s .args .state) (c .before .if1 .taken) (c .fault-of .result) (c .fault-of .ensures))
+
+counted-requires : tie.Need-counted-requires
+counted-requires c κs = search needs
+
+same-length-2 : tie.Need-same-length-2
+same-length-2 c = search needs
+
+returns-3 : tie.Need-returns-3
+returns-3 c =
+    let v = c .before .before .before .before .before in
+    let s = origin (given v) in
+    let k = eight (s .args .state) _ (s .good .0) in
+    let t = tables-after (asked s) (s .args .state) (s .args .ws .now) (s .pre .0 .1) (s .pre .1) refl k (action (given v)) (next (given v)) (read (given v)) (c .counted .result) (c .counted .ensures) in
+    by-all (commands v) (moved-follows (asked s) (s .args .n .atoms) (action (given v)) (found labelCount (asked s) (s .args .state) (s .args .ws .now)) (acted v) (next (given v)) (s .args .state) (c .before .if1 .left) refl (c .counted .result .depth) t)
+
+pub command-spec : {M : Type 1} → statement M
+command-spec =
+    tie.close
+    (tie.spec
+    read-at-requires
+    enum-known-r
+    enum-told
+    returns
+    slice-aggregate-advance-here
+    add-advance-here
+    advance-here-requires
+    fault-of-requires
+    same-length
+    returns-2
+    counted-requires
+    same-length-2
+    returns-3)
