@@ -220,7 +220,7 @@ uint64_t nuntennis_plain(const uint8_t *sheet, size_t sheet_len,
  *     nuntennis_report(sheet, sizeof sheet, 5, 32, 32, 0, 0, workspace, NUNTENNIS_WORKSPACE_WORDS(32, 32),
  *                      report, NUNTENNIS_REPORT_WORDS(32, 32), answer, 3);
  */
-#define NUNTENNIS_HAS_REPORT 1
+#define NUNTENNIS_HAS_REPORT 1 /* for hosts that may meet an older header */
 
 uint64_t nuntennis_report(const uint8_t *sheet, size_t sheet_len, size_t asked,
                           uint64_t plan_limit, uint64_t subset_limit, uint64_t pins_in, uint64_t pins_out,
