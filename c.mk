@@ -27,9 +27,7 @@ C_BIN := $(C_OUT)/bin
 
 C_SUPPORT := tests/calls tests/lent tests/random tests/oracle tests/policy
 C_REFERENCE := bench/reference bench/tables
-# The walk is tested once the header has it; the tests of reports are in the others, and ask the header the same.
-C_HAS_WALK := $(shell grep '^.define NUNTENNIS_HAS_WALK' include/nuntennis.h)
-C_TESTS := test_calls test_random $(if $(C_HAS_WALK),test_walk) test_sheets test_large test_stack
+C_TESTS := test_calls test_random test_walk test_sheets test_large test_stack
 
 test_calls_PARTS := tests/test_calls $(C_SUPPORT)
 test_random_PARTS := tests/test_random $(C_SUPPORT)
@@ -44,7 +42,7 @@ host_PARTS := examples/host examples/sheet_file
 c-test: $(C_TESTS:%=$(C_BIN)/%) $(C_BIN)/host
 	$(C_BIN)/test_calls
 	$(C_BIN)/test_random
-	$(if $(C_HAS_WALK),$(C_BIN)/test_walk)
+	$(C_BIN)/test_walk
 	$(C_BIN)/test_sheets examples/sheets/*.hex
 	$(C_BIN)/test_large
 	$(if $(SANITIZE),,$(C_BIN)/test_stack)

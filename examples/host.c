@@ -1,4 +1,4 @@
-// A host: reads a sheet and says what the engine decides; with a progress bar by stepping, once the library has the walk.
+// A host: reads a sheet and says what the engine decides, with a progress bar by stepping.
 //
 //     host [-p PLANS] [-g SUBSETS] [-i COPIES] [-o COPIES] SHEET
 //
@@ -58,7 +58,6 @@ static void print_refusal(const sheet_file *f, const uint64_t *answer)
 
 // ---- the decision, with a bar by the walk
 
-#ifdef NUNTENNIS_HAS_WALK
 static void draw(uint64_t place, size_t sheet_len)
 {
     enum { WIDTH = 40 };
@@ -85,12 +84,6 @@ static void decide(const sheet_file *f, uint32_t *workspace, size_t words, uint6
     if (answer[0] == NUNTENNIS_ENDED)
         nuntennis_verdict(&record, workspace, words, f->sheet, f->sheet_len, f->plan_limit, f->subset_limit, f->pins_in, f->pins_out, answer, 3);
 }
-#else
-static void decide(const sheet_file *f, uint32_t *workspace, size_t words, uint64_t *answer)
-{
-    nuntennis_grounded(f->sheet, f->sheet_len, f->plan_limit, f->subset_limit, f->pins_in, f->pins_out, workspace, words, answer, 3);
-}
-#endif
 
 // ---- what it says
 

@@ -33,8 +33,9 @@
  *   plan_limit  (P)            the most pairs that a table may have, 1 to 1024
  *   subset_limit (G)           the most subsets that a pair may have, 1 to 1024
  *   pins_in, pins_out          bit c is copy c: the plan has every copy of pins_in and none of pins_out
- *   workspace, workspace_len   lent words, at least NUNTENNIS_WORKSPACE_WORDS(P, G); they may hold anything before a call
+ *   workspace, workspace_len   lent words, at least NUNTENNIS_WORKSPACE_WORDS(P, G); they may hold anything before a decision, report or start
  *   answer, answer_len         at least three words (see ANSWERS)
+ *   record                     walks: a running record, lent; it may hold anything before start
  *   asked                      reports: the offset in the sheet of the command asked
  *   report, report_len         reports: lent words for the report; they may hold anything before a call
  *
@@ -42,19 +43,22 @@
  * one call do not overlap.
  *
  * Every call returns 1, and then answer[0] to answer[2] are written and later words of answer keep their values; or it returns 0 where
- * answer_len is under three, and then nothing at all is read or written: no decision, no report.
+ * answer_len is under three, and then no decision, report or step is made and everything lent is as it was.
  *
  *
  * ANSWERS
  *
  *   answer[0]  kind       answer[1]  value                                answer[2]  place
  *   0  no                 0                                               0
- *   1  yes                grounded: the plan, bit c is copy c; plain: 0   0
+ *   1  yes                grounded: the plan, bit c is copy c; else 0     0
  *   1  reported           entries written                                 words written
  *   2  refused            the refusal's number                            the refusal's place
+ *   3  moved              0                                               0
+ *   4  ended              0                                               0
  *
- * Decisions answer 0, 1 or 2, reports 1 or 2. Any grounded plan that obeys the pins may be the plan of a yes; no bit beyond the sheet's
- * copies is set in it. Nothing else is left open.
+ * Decisions answer 0, 1 or 2, reports 1 or 2, start 2 or 3, step 2, 3 or 4, and verdict 0, 1 or 2, where a yes shows no plan: its value
+ * is 0. Any grounded plan that obeys the pins may be the plan of a decision's yes; no bit beyond the sheet's copies is set in it. Nothing
+ * else is left open.
  *
  *
  * REFUSALS
@@ -77,12 +81,17 @@
  *   15  subsets full   a pair of the table here has over G subsets             offset of the command that makes the table
  *   16  plans full     the table here has over P entries                       offset of the command that makes the table
  *   17  report short   reports: report_len is under the words needed           asked
+ *   18  record         step, verdict: record and workspace lack the form       the record's place
+ *                      of a walk (see ONE COMMAND A CALL); verdict: also
+ *                      before the end
  *
  * They are tested in this order: 1 to 4; then the whole sheet is read, and the first faulty command gives the lowest of 5 to 11 that
  * applies to it; then 12, 13; then 14; then the tables command by command, at each command 15 before 16, and for a report no further than
- * the command asked; then 17. plain and plain_report never give 15. The number 18 is kept for calls to come.
+ * the command asked; then 17. plain and plain_report never give 15. start tests 1 to 13 and no more; verdict 1 to 13, then 18; step 1 to
+ * 13, then 18, then its one command, 15 before 16.
  *
- * A table here is the one after a command (document 01, Tables): of pairs for grounded and report, of triples for plain and plain_report.
+ * A table here is the one after a command (document 01, Tables): of pairs for grounded, report and step, of triples for plain and
+ * plain_report.
  *
  *
  * WHAT A CALL LEAVES (NEED is NUNTENNIS_WORKSPACE_WORDS(P, G))
@@ -92,6 +101,11 @@
  *   reported                   all zero                        its first answer[2] words are the report, later ones unchanged
  *   refused 15, 16, 17         all zero                        unchanged
  *   refused 1 to 14            unchanged                       unchanged
+ *
+ *   Outcome of a walk's call   first NEED words of workspace   record
+ *   start: moved               all zero                        place 0, no tables, all counts 0
+ *   step: moved                the tables after the command    the state after the command
+ *   any other                  unchanged                       unchanged
  *
  * Words of workspace past the first NEED are never read or written. Words of report are never read.
  */
@@ -126,7 +140,9 @@ enum {
     NUNTENNIS_NO = 0,
     NUNTENNIS_YES = 1,
     NUNTENNIS_REPORTED = 1,
-    NUNTENNIS_REFUSED = 2
+    NUNTENNIS_REFUSED = 2,
+    NUNTENNIS_MOVED = 3,
+    NUNTENNIS_ENDED = 4
 };
 
 /* answer[1] where answer[0] is NUNTENNIS_REFUSED */
@@ -147,7 +163,8 @@ enum {
     NUNTENNIS_OFFSET = 14,
     NUNTENNIS_SUBSETS_FULL = 15,
     NUNTENNIS_PLANS_FULL = 16,
-    NUNTENNIS_REPORT_SHORT = 17
+    NUNTENNIS_REPORT_SHORT = 17,
+    NUNTENNIS_RECORD = 18
 };
 
 /*
@@ -203,7 +220,7 @@ uint64_t nuntennis_plain(const uint8_t *sheet, size_t sheet_len,
  *     nuntennis_report(sheet, sizeof sheet, 5, 32, 32, 0, 0, workspace, NUNTENNIS_WORKSPACE_WORDS(32, 32),
  *                      report, NUNTENNIS_REPORT_WORDS(32, 32), answer, 3);
  */
-#define NUNTENNIS_HAS_REPORT 1
+#define NUNTENNIS_HAS_REPORT 1 /* for hosts that may meet an older header */
 
 uint64_t nuntennis_report(const uint8_t *sheet, size_t sheet_len, size_t asked,
                           uint64_t plan_limit, uint64_t subset_limit, uint64_t pins_in, uint64_t pins_out,
@@ -216,15 +233,6 @@ uint64_t nuntennis_plain_report(const uint8_t *sheet, size_t sheet_len, size_t a
                                 uint32_t *workspace, size_t workspace_len,
                                 uint32_t *report, size_t report_len,
                                 uint64_t *answer, size_t answer_len);
-
-/*
- * ---- NOT IN THIS LIBRARY YET ----
- *
- * From here to the end stand calls that are planned. The archive does not have them, this header does not declare them, and their text
- * promises nothing until then: the block will be compiled, and its rows will move up into the manual, when its macro,
- * NUNTENNIS_HAS_WALK, is defined here. Do not define it yourself: such a call can not be linked.
- */
-#ifdef NUNTENNIS_HAS_WALK
 
 /*
  * ONE COMMAND A CALL
@@ -255,15 +263,8 @@ uint64_t nuntennis_plain_report(const uint8_t *sheet, size_t sheet_len, size_t a
  * nuntennis_start     checks 1 to 13, zeroes the first 9*P*(G+2) words, and makes a record at place 0 with no tables: moved.
  * nuntennis_step      checks 1 to 13, then 18; runs the command at the record's place: moved. At the end: ended. 15 and 16 stay there.
  * nuntennis_verdict   checks 1 to 13, then 18, also where the place is not the end; reads yes or no from the final table.
- *
- * Answer: 3 moved, 0, 0 (start, step); 4 ended, 0, 0 (step); 0 or 1, 0, 0 (verdict); or 2 refused. 18, record, has the record's place.
- *
- *   Outcome                first NEED words of workspace   record
- *   start: moved           all zero                        place 0, no tables, all counts 0
- *   step: moved            the tables after the command    the state after the command
- *   any other              unchanged                       unchanged
  */
-enum { NUNTENNIS_MOVED = 3, NUNTENNIS_ENDED = 4, NUNTENNIS_RECORD = 18 };
+#define NUNTENNIS_HAS_WALK 1
 
 typedef struct nuntennis_record {
     uint64_t place;     /* offset of the next command; sheet_len at the end */
@@ -285,8 +286,6 @@ uint64_t nuntennis_verdict(const nuntennis_record *record, const uint32_t *works
                            const uint8_t *sheet, size_t sheet_len,
                            uint64_t plan_limit, uint64_t subset_limit, uint64_t pins_in, uint64_t pins_out,
                            uint64_t *answer, size_t answer_len);
-
-#endif
 
 #ifdef __cplusplus
 }

@@ -61,7 +61,6 @@ static void try_call(call c, const oracle_request *r, tally *n)
 
 // ---- a walk: the table that each step makes is the one reported
 
-#ifdef NUNTENNIS_HAS_WALK
 static void compare_newest(const oracle_request *r, const nuntennis_record *record, const uint32_t *found)
 {
     size_t width = r->subset_limit + 2, t = record->tables - 1;
@@ -92,13 +91,6 @@ static void try_walk(oracle_request r, random_source *s, tally *n)
     if (answer[0] != want.kind || !is_same) disagree("a walk", &r, "its end is not the decision's");
     free(found);
 }
-#else
-// The library has no walk yet.
-static void try_walk(oracle_request r, random_source *s, tally *n)
-{
-    (void)r, (void)s, (void)n;
-}
-#endif
 
 // ---- the sheets
 

@@ -49,7 +49,6 @@ static void call_plain_report(const instance *x)
 }
 #endif
 
-#ifdef NUNTENNIS_HAS_WALK
 static void call_walk(const instance *x)
 {
     nuntennis_record record;
@@ -59,7 +58,6 @@ static void call_walk(const instance *x)
         nuntennis_step(&record, workspace, words, x->sheet, x->sheet_len, x->plan_limit, x->subset_limit, x->pins_in, x->pins_out, answer, 3);
     nuntennis_verdict(&record, workspace, words, x->sheet, x->sheet_len, x->plan_limit, x->subset_limit, x->pins_in, x->pins_out, answer, 3);
 }
-#endif
 
 typedef struct { void (*call)(const instance *); const instance *x; } job;
 
@@ -100,9 +98,7 @@ int main(void)
         {"report", call_report},
         {"plain_report", call_plain_report},
 #endif
-#ifdef NUNTENNIS_HAS_WALK
         {"walk", call_walk},
-#endif
     };
     size_t n = all_families(instances), thread_only = stack_of(no_call, instances), most = 0;
     words = NUNTENNIS_WORKSPACE_WORDS(1024, 1024);

@@ -9,7 +9,7 @@ use Rattle.decisions.specs.Decisions.{pairsFault, plainFault}
 use Rattle.reporting.specs.declared.Report.{Report}
 use Rattle.reporting.specs.declared.Report.the-variants.{Written, Refused}
 use Rattle.reporting.specs.Reporting.{Asked, askedTable}
-use Rattle.nuntennis.specs.Answers.{answerWords}
+use Rattle.host_words.specs.Answers.{answerWords}
 
 -- the table of pairs after the command at the offset asked, or a refusal
 abbrev pub pairsAsked : Request → ℕ → Asked Pair

@@ -1,8 +1,8 @@
 // The calls for a host in C, under the names and in the order of include/nuntennis.h. None has a `requires`.
-use checks::outcomes::kind;
-use checks::outcomes::place;
-use checks::outcomes::value;
-use expression::Outcome;
+use host_words::ANSWER_WORDS;
+use host_words::write_answer;
+use host_words::write_words;
+use records::Record;
 use reporting::Report;
 ghost use mathlib.Core.Path.{_≡_};
 ghost use Prim.Native.Nat.{_≤_};
@@ -13,11 +13,10 @@ ghost use Rattle.leaves.specs.declared.Tables.the-variants.{Pairs};
 ghost use Rattle.reports.specs.Reports.{reportOf};
 ghost use Rattle.reporting.specs.Reporting.{reportAnswer, reportBuffer, wordsReported};
 ghost use Rattle.calls.specs.Calls.{request};
-ghost use Rattle.nuntennis.specs.Answers.{answerWords, returned, unlessShort, workspaceAfter, answerOf, Answered};
+ghost use Rattle.records.specs.Steps.{step, start, verdict};
+ghost use Rattle.host_words.specs.Answers.{answerWords, returned, unlessShort, workspaceAfter, answerOf, Answered};
+ghost use Rattle.host_words.specs.Walked.{progressWordsOf};
 ghost use Rattle.nuntennis.specs.Reported.{pairsAsked, triplesAsked, reportWordsOf};
-
-// Kind, value and place.
-const ANSWER_WORDS: usize = 3;
 
 // The grounded decision. The mask of a yes is the only free result: an answer set that obeys the assumptions (demand 3).
 #[no_mangle]
@@ -117,14 +116,66 @@ pub extern "C" fn nuntennis_plain_report(
     1
 }
 
-// An outcome's three words; later words keep their values.
-fn write_answer(answer: &mut [u64], o: Outcome)
-    requires { ⌜ answerWords ≤ length (now answer) ⌝ }
-    ensures { λ _. ⌜ now (answer .exit) ≡ answerOf o (now (answer .entry)) ⌝ }
+// Starts a walk: the record is at place 0 without tables.
+#[no_mangle]
+pub extern "C" fn nuntennis_start(
+    record: &mut Record,
+    workspace: &mut [u32],
+    sheet: &[u8],
+    p: u64,
+    g: u64,
+    pins_in: u64,
+    pins_out: u64,
+    answer: &mut [u64],
+) -> u64
+    ensures { λ r. ⌜ r ≡ returned (now (answer .entry)) ⌝ }
+    ensures { λ r. ⌜ now («record» .exit) ≡ unlessShort (now (answer .entry)) (now («record» .entry)) (start labelCount (request (now (sheet .entry)) p g (length (now (workspace .entry))) «pins_in» «pins_out») (now («record» .entry)) (now (workspace .entry)) .state) ⌝ }
+    ensures { λ r. ⌜ now (workspace .exit) ≡ unlessShort (now (answer .entry)) (now (workspace .entry)) (start labelCount (request (now (sheet .entry)) p g (length (now (workspace .entry))) «pins_in» «pins_out») (now («record» .entry)) (now (workspace .entry)) .words) ⌝ }
+    ensures { λ r. ⌜ now (answer .exit) ≡ unlessShort (now (answer .entry)) (now (answer .entry)) (progressWordsOf (start labelCount (request (now (sheet .entry)) p g (length (now (workspace .entry))) «pins_in» «pins_out») (now («record» .entry)) (now (workspace .entry)) .answer) (now (answer .entry))) ⌝ }
 {
-    answer[0] = kind(o);
-    answer[1] = value(o);
-    answer[2] = place(o);
+    let t = host_words::tell_start(*record, workspace, sheet, p, g, pins_in, pins_out, answer);
+    *record = t.state;
+    t.returned
+}
+
+// One command a call: does the command at the record's place.
+#[no_mangle]
+pub extern "C" fn nuntennis_step(
+    record: &mut Record,
+    workspace: &mut [u32],
+    sheet: &[u8],
+    p: u64,
+    g: u64,
+    pins_in: u64,
+    pins_out: u64,
+    answer: &mut [u64],
+) -> u64
+    ensures { λ r. ⌜ r ≡ returned (now (answer .entry)) ⌝ }
+    ensures { λ r. ⌜ now («record» .exit) ≡ unlessShort (now (answer .entry)) (now («record» .entry)) (step labelCount (request (now (sheet .entry)) p g (length (now (workspace .entry))) «pins_in» «pins_out») (now («record» .entry)) (now (workspace .entry)) .state) ⌝ }
+    ensures { λ r. ⌜ now (workspace .exit) ≡ unlessShort (now (answer .entry)) (now (workspace .entry)) (step labelCount (request (now (sheet .entry)) p g (length (now (workspace .entry))) «pins_in» «pins_out») (now («record» .entry)) (now (workspace .entry)) .words) ⌝ }
+    ensures { λ r. ⌜ now (answer .exit) ≡ unlessShort (now (answer .entry)) (now (answer .entry)) (progressWordsOf (step labelCount (request (now (sheet .entry)) p g (length (now (workspace .entry))) «pins_in» «pins_out») (now («record» .entry)) (now (workspace .entry)) .answer) (now (answer .entry))) ⌝ }
+{
+    let t = host_words::tell_step(*record, workspace, sheet, p, g, pins_in, pins_out, answer);
+    *record = t.state;
+    t.returned
+}
+
+// The verdict at the end of a walk.
+#[no_mangle]
+pub extern "C" fn nuntennis_verdict(
+    record: &Record,
+    workspace: &[u32],
+    sheet: &[u8],
+    p: u64,
+    g: u64,
+    pins_in: u64,
+    pins_out: u64,
+    answer: &mut [u64],
+) -> u64
+    ensures { λ r. ⌜ r ≡ returned (now (answer .entry)) ⌝ }
+    ensures { λ r. ⌜ now (answer .exit) ≡ unlessShort (now (answer .entry)) (now (answer .entry)) (answerOf (verdict labelCount (request (now (sheet .entry)) p g (length (now (workspace .entry))) «pins_in» «pins_out») (now («record» .entry)) (now (workspace .entry))) (now (answer .entry))) ⌝ }
+{
+    host_words::tell_verdict(*record, workspace, sheet, p, g, pins_in, pins_out, answer)
 }
 
 // A report's three words; a refusal is written as that of a decision.
@@ -133,11 +184,7 @@ fn write_report(answer: &mut [u64], r: Report)
     ensures { λ _. ⌜ now (answer .exit) ≡ reportWordsOf r (now (answer .entry)) ⌝ }
 {
     match r {
-        Report::Written(entries, words) => {
-            answer[0] = 1;
-            answer[1] = entries;
-            answer[2] = words;
-        }
-        Report::Refused(number, at) => write_answer(answer, Outcome::Refused(number, at)),
+        Report::Written(entries, words) => write_words(answer, 1, entries, words),
+        Report::Refused(number, at) => write_words(answer, 2, number, at as u64),
     }
 }

@@ -7,11 +7,11 @@ use Rattle.labels.specs.Labels.{labelCount}
 use Rattle.expression.specs.declared.Outcome.{Outcome}
 use Rattle.decisions.specs.Outcomes.{PlainOutcome}
 use Rattle.calls.specs.Calls.{request}
-use Rattle.nuntennis.proofs.Answers.{answered-short, answered-told}
+use Rattle.host_words.proofs.Answers.{answered-short, answered-told}
 use Rattle.nuntennis.proofs.nuntennis_plain.Statement.{statement}
 use Rattle.nuntennis.proofs.nuntennis_plain.Tie as tie
 use Rattle.calls.proofs.plain.Reads as plain-reads
-use Rattle.nuntennis.proofs.write_answer.Reads as write-answer-reads
+use Rattle.host_words.proofs.write_answer.Reads as write-answer-reads
 
 abbrev Right : tie.Start → Outcome → Type 0
 Right s = PlainOutcome labelCount (request (s .args .sheet .now) (s .args .p) (s .args .g) (length (s .args .workspace .now)) (s .args .pins-in) (s .args .pins-out))

@@ -5,7 +5,7 @@ use Prim.Native.Nat.{ℕ, _≤_, _<_}
 use native.Mathlib.Omega.{arith}
 use lib.ListN.{length, set, drop}
 use Rattle.expression.specs.declared.Outcome.{Outcome}
-use Rattle.nuntennis.specs.Answers.{answerWords, answerOf, Answered}
+use Rattle.host_words.specs.Answers.{answerWords, answerOf, Answered}
 
 pub three-set : (xs : List ℕ) (a b c : ℕ) → 3 ≤ length xs → set (set (set xs 0 a) 1 b) 2 c ≡ a ∷ b ∷ c ∷ drop 3 xs
 three-set [] a b c h = absurd (omega arith)

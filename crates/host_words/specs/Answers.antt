@@ -19,9 +19,9 @@ answerWords = 3
 abbrev pub returned : List ℕ → ℕ
 returned answer = cond (ltb (length answer) answerWords) 0 1
 
--- the words of a lent slice before and after: a call with a short answer leaves them
-abbrev pub unlessShort : List ℕ → List ℕ → List ℕ → List ℕ
-unlessShort answer xs xs' = cond (ltb (length answer) answerWords) xs xs'
+-- what is lent before and after: a call with a short answer leaves it
+abbrev pub unlessShort : {X : Type 0} → List ℕ → X → X → X
+unlessShort answer x x' = cond (ltb (length answer) answerWords) x x'
 
 -- the words of the workspace after a decision
 abbrev pub workspaceAfter : List ℕ → Request → List ℕ → List ℕ

@@ -1,0 +1,31 @@
+-- `tell_start`: the slice is short, or a walk is started and the answer written.
+use mathlib.Core.Path.{refl}
+use borrow.Author.Needs.{needs}
+use borrow.Author.Tests.{lt-ltb, le-ltb}
+use Rattle.host_words.proofs.tell_start.Statement.{statement}
+use Rattle.host_words.proofs.tell_start.Tie as tie
+use Rattle.host_words.proofs.write_progress.Reads as write-progress-reads
+use Rattle.steps.proofs.start.Reads as start-reads
+
+returns : tie.Need-returns
+returns c = simp (lt-ltb _ _ (c .if1 .taken)) (refl, (refl, (refl, refl)))
+
+start-requires : tie.Need-start-requires
+start-requires c κs = search needs
+
+write-progress-requires : tie.Need-write-progress-requires
+write-progress-requires c κs = search needs
+
+same-length : tie.Need-same-length
+same-length c = search needs
+
+same-length-2 : tie.Need-same-length-2
+same-length-2 c = search needs
+
+returns-2 : tie.Need-returns-2
+returns-2 c = simp (le-ltb _ _ (c .before .before .before .before .before .before .before .before .before .if1 .left)) (refl, (cc, (cc, cc)))
+
+pub tell-start-spec : {M : Type 1} → statement M
+tell-start-spec =
+    tie.close
+    (tie.spec returns start-requires write-progress-requires same-length same-length-2 returns-2)
