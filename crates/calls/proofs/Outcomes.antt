@@ -1,36 +1,33 @@
 -- What a decision over tables with values answers is the outcome that the definitions ask. Assumes nothing.
 use mathlib.Core.Path.{_≡_, refl, sym, ap, _∙_}
-use mathlib.Core.Bool.{true, false}
-use mathlib.Core.List.{List, map}
-use Prim.Native.Nat.{ℕ, _+_, _*_, _≤_, _<_}
+use mathlib.Core.List.{List}
+use Prim.Native.Nat.{ℕ, _+_, _*_, _≤_}
 use native.Mathlib.Omega.{arith}
-use native.Mathlib.Nat.{mul-le-mul}
 use lib.ListN.{length}
 use Rattle.labels.specs.Labels.{labelCount}
 use Rattle.expression.specs.declared.Counts.{Counts}
 use Rattle.expression.specs.declared.Checked.the-variants.{Passed, Refused as Stopped}
 use Rattle.expression.specs.declared.Outcome.{Outcome}
 use Rattle.expression.specs.declared.Outcome.the-variants.{Yes, No, Refused}
-use Rattle.expression.specs.Limits.{tableLimit, areaWords, workspaceNeed}
+use Rattle.expression.specs.Limits.{workspaceNeed}
 use Rattle.expression.specs.Checks.{Request, check}
-use Rattle.expression.proofs.Checks.{area-bound}
-use Rattle.expression.proofs.Accepted.{Accepted, check-accepted}
+use Rattle.checks.proofs.Passing.{accepted}
 use Rattle.semantics.specs.AnswerSets.{byMasks}
 use Rattle.tables.specs.Definitions.{pairs, flat}
 use Rattle.values.specs.First.{firstWords}
-use Rattle.decisions.specs.Decisions.{affirmed, denied, refused, assumed, answer, newest, grounded, plain, stopped, walked}
+use Rattle.decisions.specs.Decisions.{affirmed, denied, assumed, answer, newest, plain}
 use Rattle.decisions.specs.Outcomes.{GroundedOutcome, PlainOutcome}
 use Rattle.decisions.proofs.Carried.{valuedWalk, grounded-refused, plain-refused, plain-stopped, plain-walked-grounded}
 use Rattle.decisions.proofs.Outcomes.{refused-outcome, plain-outcome, stopped-outcome, yes-outcome, no-outcome}
 use Rattle.entries.specs.declared.Carry.the-variants.{Nothing, First}
-use Rattle.entries.specs.Carries.{Entry, carriedBy}
+use Rattle.entries.specs.Carries.{carriedBy}
 use Rattle.leaves.specs.declared.Tables.the-variants.{Plain, Pairs}
 use Rattle.leaves.specs.Leaves.{algebraOf}
 use Rattle.answers.proofs.Accepting.{none-denies, worth-affirms}
 use Rattle.walks.specs.Walks.{walkTo}
 use Rattle.walks.proofs.Whole.{whole-walk}
-use Rattle.stacks.specs.Stacks.{cleared}
-use Rattle.engine.specs.Engine.{wordsAfter, Decides, shownOutcome, plainOutcome}
+use Rattle.stacks.specs.Stacks.{cleared, wordsAfter}
+use Rattle.engine.specs.Engine.{Decides, shownOutcome, plainOutcome}
 
 module _ (a : Request) where
   -- ---- a check refuses
@@ -48,25 +45,18 @@ module _ (a : Request) where
   -- ---- all checks pass
 
   module _ {z : Counts} (passed : check labelCount a ≡ Passed z) where
-    abbrev pub accepted : Accepted labelCount a z
-    accepted = check-accepted labelCount a z passed
-
     pub words-cleared : (ws : List ℕ) → cleared (workspaceNeed (a .pairLimit) (a .subsetLimit)) ws ≡ wordsAfter labelCount a ws
     unfolding wordsAfter
     words-cleared ws = rw (passed, wordsAfter)
 
-    -- an area is small
-    pub area-small : a .pairLimit * (a .subsetLimit + 2) ≤ 1050624
-    area-small = area-bound (a .pairLimit) (a .subsetLimit) (accepted .pairs .1) (accepted .subsets .1)
-
     pairs-walk : walkTo Pairs First (byMasks (a .assumedTrue) (a .assumedFalse)) (a .subsetLimit + 2) (a .pairLimit) (length (a .bytes)) (a .bytes)
         ≡ valuedWalk (pairs labelCount) firstWords (a .subsetLimit) labelCount a
     unfolding assumed algebraOf
-    pairs-walk = whole-walk a (accepted .joined) Pairs First (a .subsetLimit + 2) (a .subsetLimit) refl
+    pairs-walk = whole-walk a (accepted a passed .joined) Pairs First (a .subsetLimit + 2) (a .subsetLimit) refl
 
     plain-walk : walkTo Plain Nothing (byMasks (a .assumedTrue) (a .assumedFalse)) 2 (a .pairLimit) (length (a .bytes)) (a .bytes) ≡ valuedWalk (flat labelCount) (carriedBy Nothing) 0 labelCount a
     unfolding assumed algebraOf
-    plain-walk = whole-walk a (accepted .joined) Plain Nothing 2 0 refl
+    plain-walk = whole-walk a (accepted a passed .joined) Plain Nothing 2 0 refl
 
     pub grounded-decided : (o : Outcome) → Decides Pairs First (byMasks (a .assumedTrue) (a .assumedFalse)) (a .subsetLimit + 2) (a .pairLimit) (a .bytes) o → GroundedOutcome labelCount a (shownOutcome (z .atoms) o)
     grounded-decided (Yes v) (us, e, l) = yes-outcome labelCount a passed (sym pairs-walk ∙ e) v l
@@ -80,7 +70,3 @@ module _ (a : Request) where
     plain-decided No (us, e, l) =
         plain-outcome labelCount a {v = denied} (plain-walked-grounded (carriedBy Nothing) labelCount a passed 0 (sym plain-walk ∙ e) ∙ ap answer (none-denies labelCount (newest us) l)) refl
     plain-decided (Refused n at) e = plain-outcome labelCount a (plain-stopped (carriedBy Nothing) labelCount a passed 0 (sym plain-walk ∙ e)) refl
-
--- plain tables take no more than their share of the words needed
-pub plain-within : (P G : ℕ) → (8 + 1) * (P * 2) ≤ (8 + 1) * (P * (G + 2))
-plain-within P G = let z : P * (G + 2) ≡ P * G + P * 2 = omega arith in omega arith

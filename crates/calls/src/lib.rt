@@ -7,8 +7,8 @@ ghost use mathlib.Core.Path.{_≡_};
 ghost use lib.ListN.{length};
 ghost use Rattle.labels.specs.Labels.{labelCount};
 ghost use Rattle.decisions.specs.Outcomes.{GroundedOutcome, PlainOutcome};
-ghost use Rattle.engine.specs.Engine.{wordsAfter};
-ghost use Rattle.calls.specs.Calls.{request};
+ghost use Rattle.stacks.specs.Stacks.{wordsAfter};
+ghost use Rattle.checks.specs.Requests.{request};
 
 // The grounded decision. The verdict is the definition's; yes shows an answer set of the expression's rules that obeys the assumptions, and no says that
 // there is none (demand 3). The workspace is untouched where a check refuses, else its needed words are zero.
@@ -25,7 +25,7 @@ pub fn grounded(
 {
     let r = check(s, p, g, ws.len(), assumed_true, assumed_false);
     let Checked::Passed(n) = r else {
-        return engine::refusal(r);
+        return checks::outcomes::refusal(r);
     };
     let limit = p as usize;
     let w = g as usize + 2;
@@ -48,7 +48,7 @@ pub fn plain(
 {
     let r = check(s, p, g, ws.len(), assumed_true, assumed_false);
     let Checked::Passed(_) = r else {
-        return engine::refusal(r);
+        return checks::outcomes::refusal(r);
     };
     let limit = p as usize;
     let need = AREAS * (limit * (g as usize + 2));

@@ -7,6 +7,7 @@ ghost use Rattle.labels.specs.Labels.{labelCount};
 ghost use Rattle.expression.specs.Commands.{refusalOf};
 ghost use Rattle.expression.specs.Limits.{tableLimit, workspaceNeed};
 ghost use Rattle.expression.specs.Checks.{isLimit, check, checkBytes};
+ghost use Rattle.checks.specs.Requests.{request};
 use commands::counting::count_fault;
 use commands::counting::counted;
 use commands::counting::no_counts;
@@ -32,7 +33,7 @@ pub fn check(
     assumed_true: u64,
     assumed_false: u64,
 ) -> Checked
-    ensures { λ r. ⌜ r ≡ check labelCount (record { bytes = now (s .entry); pairLimit = p; subsetLimit = g; room = room; assumedTrue = «assumed_true»; assumedFalse = «assumed_false» }) ⌝ }
+    ensures { λ r. ⌜ r ≡ check labelCount (request (now (s .entry)) p g room «assumed_true» «assumed_false») ⌝ }
 {
     if s.len() > BYTE_LIMIT {
         return Checked::Refused(OVERLONG, 0);

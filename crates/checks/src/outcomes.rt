@@ -1,7 +1,19 @@
-// The three words that a host gets of an outcome (01, "One command a call").
+// The outcome of a refused check, and the three words that a host gets of an outcome (01, "One command a call").
 ghost use mathlib.Core.Path.{_≡_};
 ghost use Rattle.expression.specs.Outcomes.{kindOf, valueOf, placeOf};
+ghost use Rattle.checks.specs.Requests.{refusalOutcome};
+use expression::Checked;
 use expression::Outcome;
+
+// What a check refuses.
+pub fn refusal(r: Checked) -> Outcome
+    ensures { λ o. ⌜ o ≡ refusalOutcome r ⌝ }
+{
+    match r {
+        Checked::Passed(_) => Outcome::No,
+        Checked::Refused(n, at) => Outcome::Refused(n, at),
+    }
+}
 
 // 0 no, 1 yes, 2 refused.
 pub fn kind(o: Outcome) -> u64

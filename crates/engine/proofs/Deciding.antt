@@ -1,62 +1,18 @@
 -- What a decision finds in the last table. Assumes nothing.
-use mathlib.Core.Path.{_≡_, refl, sym, ap, _∙_}
+use mathlib.Core.Path.{_≡_, sym}
 use mathlib.Core.List.{List}
-use Prim.Native.Nat.{ℕ, _+_, _-_, _*_, _≤_}
-use native.Mathlib.Omega.{arith}
+use Prim.Native.Nat.{ℕ}
 use lib.ListN.{length}
-use Rattle.expression.specs.Limits.{depthLimit}
 use Rattle.semantics.specs.AnswerSets.{Assumptions}
 use Rattle.decisions.specs.Decisions.{newest, walked}
-use Rattle.rows.specs.Parts.{part}
-use Rattle.rows.specs.Rows.{Rows}
 use Rattle.entries.specs.declared.Carry.{Carry}
-use Rattle.entries.specs.declared.Carry.the-variants.{Nothing, First}
-use Rattle.entries.specs.Carries.{Entry, Beside}
-use Rattle.making.specs.Making.{entriesAt}
+use Rattle.entries.specs.Carries.{Entry}
 use Rattle.leaves.specs.declared.Tables.{Tables}
-use Rattle.workspace.specs.Workspace.{valuesFrom}
-use Rattle.stacks.specs.Stacks.{countBelow}
-use Rattle.operations.proofs.Loads.{Stands as Operand, newer-stands, stands-rows, stands-few, stands-entries}
 use Rattle.answers.specs.declared.Found.{Found}
 use Rattle.answers.specs.declared.Found.the-variants as found
 use Rattle.answers.specs.Answers.{totalOf}
-use Rattle.walks.specs.Walks.{Stands, walkTo}
-use Rattle.walks.proofs.Advancing.{loaded}
+use Rattle.walks.specs.Walks.{walkTo}
 use Rattle.engine.specs.Engine.{leastOf, Decides, valueOutcome}
-
-module _ {carry : Carry} {w p : ℕ} {us : List (List Entry)} {beyond ws vals counts : List ℕ} (h : Stands carry (depthLimit + 1) w p us beyond ws vals counts) (t : ℕ) (e : length us ≡ t) (one : t ≡ 1)
-    (n : ℕ) (en : n ≡ countBelow t 1 counts) where
-  S : Operand carry w p (t - 1) (newest us) ws vals
-  S = newer-stands us (loaded h (omega arith) t e n (countBelow t 2 counts) en refl) (omega (arith, one))
-
-  first-area : 0 ≡ (t - 1) * (p * w)
-  first-area = let z : t - 1 ≡ 0 = omega (arith, one) in sym (ap (λ (i : ℕ). i * (p * w)) z ∙ omega arith)
-
-  many : length (newest us) ≡ n
-  many = loaded h (omega arith) t e n (countBelow t 2 counts) en refl .newer
-
-  pub last-rows : Rows w p n (part 0 (p * w) ws)
-  last-rows = stands-rows S 0 n first-area many
-
-  first-values : 0 ≡ valuesFrom carry p (t - 1)
-  first-values = step carry
-    where
-      step : (c : Carry) → 0 ≡ valuesFrom c p (t - 1)
-      step Nothing = refl
-      step First = let z : t - 1 ≡ 0 = omega (arith, one) in sym (ap (λ (i : ℕ). i * p) z ∙ omega arith)
-
-  pub last-beside : Beside carry (depthLimit * p) vals → Beside carry n vals
-  last-beside b = step carry b
-    where
-      few : n ≤ p
-      few = stands-few S 0 n first-area many
-
-      step : (c : Carry) → Beside c (depthLimit * p) vals → Beside c n vals
-      step Nothing b = tt
-      step First b = omega (arith, few)
-
-  pub last-entries : entriesAt carry w p 0 n vals ws ≡ newest us
-  last-entries = stands-entries S 0 n first-area many 0 first-values
 
 -- what was found in it
 pub found-decides : (kind : Tables) (carry : Carry) (o : Assumptions) (w p : ℕ) (s : List ℕ) (us : List (List Entry)) → walkTo kind carry o w p (length s) s ≡ walked us

@@ -4,12 +4,8 @@ use mathlib.Core.List.{List}
 use Prim.Native.Nat.{ℕ}
 use lib.ListN.{length}
 use Rattle.labels.specs.Labels.{labelCount}
-use Rattle.expression.specs.declared.Checked.{Checked}
-use Rattle.expression.specs.declared.Checked.the-variants as checked
 use Rattle.expression.specs.declared.Outcome.{Outcome}
 use Rattle.expression.specs.declared.Outcome.the-variants.{Yes, No, Refused}
-use Rattle.expression.specs.Limits.{workspaceNeed}
-use Rattle.expression.specs.Checks.{Request, check}
 use Rattle.semantics.specs.AnswerSets.{Assumptions}
 use Rattle.tables.specs.Definitions.{accepting}
 use Rattle.values.specs.Values.{Total, none, worth, sumBy}
@@ -19,14 +15,9 @@ use Rattle.entries.specs.declared.Carry.{Carry}
 use Rattle.entries.specs.declared.Carry.the-variants.{Nothing, First}
 use Rattle.entries.specs.Carries.{Entry}
 use Rattle.leaves.specs.declared.Tables.{Tables}
-use Rattle.stacks.specs.Stacks.{cleared}
 use Rattle.answers.specs.declared.Found.{Found}
 use Rattle.answers.specs.declared.Found.the-variants as found
 use Rattle.walks.specs.Walks.{walkTo}
-
--- 01, Outcomes: a refusal by a check changes no buffer; after any other outcome the words needed are zero and the rest is untouched
-unfoldable pub wordsAfter : ℕ → Request → List ℕ → List ℕ
-wordsAfter K a ws = elim (check K a) [ checked.Passed z ↦ cleared (workspaceNeed (a .pairLimit) (a .subsetLimit)) ws | checked.Refused n at ↦ ws ]
 
 -- the least value of the entries that accept
 abbrev pub leastOf : List Entry → Total ℕ
@@ -54,11 +45,6 @@ abbrev pub plainOutcome : Outcome → Outcome
 plainOutcome (Yes v) = Yes 0
 plainOutcome No = No
 plainOutcome (Refused f at) = Refused f at
-
--- the refusal of the checks
-abbrev pub refusalOutcome : Checked → Outcome
-refusalOutcome (checked.Passed z) = No
-refusalOutcome (checked.Refused n at) = Refused n at
 
 -- how many words of values a table of p rows takes
 abbrev pub valueWords : Carry → ℕ → ℕ

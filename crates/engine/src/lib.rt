@@ -1,7 +1,6 @@
 // The decisions: whether some answer set, or some model, obeys the assumptions.
 use answers::Found;
 use entries::Carry;
-use expression::Checked;
 use expression::Outcome;
 use leaves::Tables;
 use walks::Reached;
@@ -20,7 +19,7 @@ ghost use Rattle.entries.specs.declared.Carry.the-variants.{Nothing, First};
 ghost use Rattle.leaves.specs.declared.Tables.the-variants.{Plain, Pairs};
 ghost use Rattle.leaves.specs.Leaves.{Wide};
 ghost use Rattle.stacks.specs.Stacks.{cleared};
-ghost use Rattle.engine.specs.Engine.{valueOutcome, shownOutcome, plainOutcome, refusalOutcome, valueWords, Decides};
+ghost use Rattle.engine.specs.Engine.{valueOutcome, shownOutcome, plainOutcome, valueWords, Decides};
 
 // Yes with the least value, or no.
 fn outcome_of(found: Found) -> Outcome
@@ -158,16 +157,6 @@ pub fn unshown(o: Outcome) -> Outcome
         Outcome::Yes(_) => Outcome::Yes(0),
         Outcome::No => Outcome::No,
         Outcome::Refused(f, at) => Outcome::Refused(f, at),
-    }
-}
-
-// What a check refuses.
-pub fn refusal(r: Checked) -> Outcome
-    ensures { λ o. ⌜ o ≡ refusalOutcome r ⌝ }
-{
-    match r {
-        Checked::Passed(_) => Outcome::No,
-        Checked::Refused(n, at) => Outcome::Refused(n, at),
     }
 }
 

@@ -9,7 +9,7 @@ use Rattle.labels.specs.Labels.{labelCount}
 use Rattle.expression.specs.declared.Outcome.{Outcome}
 use Rattle.expression.specs.Outcomes.{kindOf, valueOf, placeOf}
 use Rattle.expression.specs.Checks.{Request}
-use Rattle.engine.specs.Engine.{wordsAfter}
+use Rattle.stacks.specs.Stacks.{wordsAfter}
 
 -- kind, value and place
 abbrev pub answerWords : ℕ

@@ -10,7 +10,7 @@ ghost use mathlib.Core.List.{_∷_};
 ghost use Prim.Native.Nat.{_≤_};
 ghost use lib.ListN.{length, drop};
 ghost use Rattle.labels.specs.Labels.{labelCount};
-ghost use Rattle.calls.specs.Calls.{request};
+ghost use Rattle.checks.specs.Requests.{request};
 ghost use Rattle.records.specs.Steps.{step, start, verdict};
 ghost use Rattle.host_words.specs.Answers.{answerWords, returned, unlessShort, answerOf};
 ghost use Rattle.host_words.specs.Walked.{progressWordsOf};

@@ -5,7 +5,7 @@ ghost use Prim.Native.Nat.{_≤_, _<_};
 ghost use lib.ListN.{length};
 ghost use Rattle.labels.specs.Labels.{labelCount};
 ghost use Rattle.decisions.specs.Outcomes.{verdictOf};
-ghost use Rattle.calls.specs.Calls.{request};
+ghost use Rattle.checks.specs.Requests.{request};
 ghost use Rattle.listing.specs.Listing.{isRefusal, eitherRefused, lastStart, PairsFrom};
 use calls::grounded;
 use calls::plain;

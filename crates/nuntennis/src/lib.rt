@@ -12,7 +12,7 @@ ghost use Rattle.decisions.specs.Outcomes.{GroundedOutcome, PlainOutcome};
 ghost use Rattle.leaves.specs.declared.Tables.the-variants.{Pairs};
 ghost use Rattle.reports.specs.Reports.{reportOf};
 ghost use Rattle.reporting.specs.Reporting.{reportAnswer, reportBuffer, wordsReported};
-ghost use Rattle.calls.specs.Calls.{request};
+ghost use Rattle.checks.specs.Requests.{request};
 ghost use Rattle.records.specs.Steps.{step, start, verdict};
 ghost use Rattle.host_words.specs.Answers.{answerWords, returned, unlessShort, workspaceAfter, answerOf, Answered};
 ghost use Rattle.host_words.specs.Walked.{progressWordsOf};

@@ -15,7 +15,7 @@ ghost use Rattle.decisions.specs.Decisions.{pairsFault, plainFault};
 ghost use Rattle.leaves.specs.declared.Tables.the-variants.{Pairs};
 ghost use Rattle.reports.specs.Reports.{reportOf};
 ghost use Rattle.reporting.specs.Reporting.{startsAt, askedTable, reportAnswer, reportBuffer, wordsReported};
-ghost use Rattle.calls.specs.Calls.{request};
+ghost use Rattle.checks.specs.Requests.{request};
 ghost use Rattle.report_calls.specs.ReportCalls.{refusedReport};
 
 // Whether a command starts at the offset asked.

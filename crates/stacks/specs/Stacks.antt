@@ -1,4 +1,4 @@
--- How many entries each table of a stack has, beside its workspace (01, "One command a call"). Assumes nothing.
+-- Words cleared, and how many entries each table of a stack has, beside its workspace (01, Outcomes and "One command a call"). Assumes nothing.
 use mathlib.Core.Path.{_≡_}
 use mathlib.Core.Bool.{cond}
 use mathlib.Core.List.{List, _++_}
@@ -6,8 +6,11 @@ use Prim.Native.Nat.{ℕ, _-_, _≤_, _<_}
 use lib.Dec.{ltb}
 use lib.ListN.{length, drop, getD, set}
 use Rattle.lists.specs.Lists.{All}
+use Rattle.expression.specs.declared.Checked.the-variants as checked
 use Rattle.expression.specs.declared.Command.{Command}
 use Rattle.expression.specs.declared.Command.the-variants.{Atom, Rule, Union, Relabel, Connect}
+use Rattle.expression.specs.Limits.{workspaceNeed}
+use Rattle.expression.specs.Checks.{Request, check}
 use Rattle.tables.specs.Definitions.{Pair}
 use Rattle.rows.specs.Parts.{zeros}
 use Rattle.workspace.specs.Workspace.{workspaceOf, Sound, countsOf}
@@ -15,6 +18,10 @@ use Rattle.workspace.specs.Workspace.{workspaceOf, Sound, countsOf}
 -- the words with zeros over the first n
 abbrev pub cleared : ℕ → List ℕ → List ℕ
 cleared n ws = zeros n ++ drop n ws
+
+-- 01, Outcomes: a refusal by a check changes no buffer; after any other outcome the words needed are zero and the rest is untouched
+unfoldable pub wordsAfter : ℕ → Request → List ℕ → List ℕ
+wordsAfter K a ws = elim (check K a) [ checked.Passed z ↦ cleared (workspaceNeed (a .pairLimit) (a .subsetLimit)) ws | checked.Refused n at ↦ ws ]
 
 -- the count of the k-th newest of t tables; 0 where there is none
 abbrev pub countBelow : ℕ → ℕ → List ℕ → ℕ

@@ -2,7 +2,7 @@
 ghost use mathlib.Core.Path.{_≡_};
 ghost use lib.ListN.{length};
 ghost use Rattle.labels.specs.Labels.{labelCount};
-ghost use Rattle.calls.specs.Calls.{request};
+ghost use Rattle.checks.specs.Requests.{request};
 ghost use Rattle.records.specs.Steps.{step};
 use records::Progress;
 use records::Record;

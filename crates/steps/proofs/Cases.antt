@@ -24,7 +24,7 @@ use Rattle.decisions.specs.Decisions.{assumed, pairsFault, newest}
 use Rattle.workspace.specs.Workspace.{stackCounts, countsOf}
 use Rattle.stacks.specs.Stacks.{cleared}
 use Rattle.forms.specs.Forms.{areZero, areTables}
-use Rattle.calls.specs.Calls.{request}
+use Rattle.checks.specs.Requests.{request}
 use Rattle.records.specs.declared.Record.{Record}
 use Rattle.records.specs.declared.Progress.{Progress}
 use Rattle.records.specs.declared.Progress.the-variants.{Moved, Ended, Refused}

@@ -30,7 +30,7 @@ use Rattle.answers.specs.declared.Found.the-variants.{None, Least}
 use Rattle.answers.specs.Answers.{totalOf}
 use Rattle.answers.proofs.Accepting.{none-denies, worth-affirms}
 use Rattle.walks.specs.Walks.{Stands}
-use Rattle.engine.proofs.Deciding.{last-rows, last-entries}
+use Rattle.walks.proofs.Last.{last-rows, last-entries}
 use Rattle.records.specs.declared.Record.{Record}
 use Rattle.records.specs.Steps.{found, formedAt, conclusion}
 use Rattle.steps.proofs.Cases.{conclusion-ended}

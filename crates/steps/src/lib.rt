@@ -32,7 +32,7 @@ ghost use Rattle.expression.specs.Checks.{check};
 ghost use Rattle.semantics.specs.AnswerSets.{byMasks};
 ghost use Rattle.operations.specs.Operations.{Meets};
 ghost use Rattle.forms.specs.Forms.{areZero, areTables};
-ghost use Rattle.calls.specs.Calls.{request};
+ghost use Rattle.checks.specs.Requests.{request};
 ghost use Rattle.records.specs.Steps.{formedAt, command, step, start, conclusion, verdict};
 ghost use Rattle.steps.specs.Stepping.{SomeStand, Advances, refusedProgress, Follows};
 
@@ -298,7 +298,7 @@ pub fn verdict(
 {
     let r = check(s, p, g, ws.len(), assumed_true, assumed_false);
     let Checked::Passed(_) = r else {
-        return engine::refusal(r);
+        return checks::outcomes::refusal(r);
     };
     let f = formed_at(state, ws, s, p, g);
     let Located::Before(_) = f else {

@@ -3,3 +3,4 @@ pub mod Going
 pub mod Whole
 pub mod Advancing
 pub mod Clear
+pub mod Last

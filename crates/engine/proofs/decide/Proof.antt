@@ -14,7 +14,8 @@ use Rattle.walks.specs.Walks.{Stands, Reaches}
 use Rattle.walks.proofs.Advancing.{beside-as, counts-reach}
 use Rattle.engine.specs.Engine.{leastOf, Decides}
 use Rattle.walks.proofs.Clear.{behind, stands-clear, all-clear}
-use Rattle.engine.proofs.Deciding.{last-rows, last-beside, last-entries, found-decides}
+use Rattle.walks.proofs.Last.{last-rows, last-beside, last-entries}
+use Rattle.engine.proofs.Deciding.{found-decides}
 use borrow.Author.Needs.{needs}
 use native.Mathlib.Omega.{arith}
 use borrow.Author.Needs.{needs}

@@ -3,7 +3,7 @@ use mathlib.Core.Path.{ap}
 use Prim.Native.Nat.{ℕ}
 use lib.ListN.{length}
 use borrow.Author.Needs.{needs}
-use Rattle.calls.specs.Calls.{request}
+use Rattle.checks.specs.Requests.{request}
 use Rattle.listing.proofs.Printing.{first-refused, second-refused}
 use Rattle.listing.proofs.print_decisions.Statement.{statement}
 use Rattle.listing.proofs.print_decisions.Tie as tie

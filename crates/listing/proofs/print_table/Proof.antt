@@ -5,7 +5,7 @@ use Rattle.labels.specs.Labels.{labelCount}
 use Rattle.tables.specs.Definitions.{pairs}
 use Rattle.decisions.specs.Decisions.{pairsFault}
 use Rattle.reporting.specs.Reporting.{askedTable}
-use Rattle.calls.specs.Calls.{request}
+use Rattle.checks.specs.Requests.{request}
 use Rattle.listing.proofs.Printing.{written-pairs}
 use Rattle.listing.proofs.print_table.Statement.{statement}
 use Rattle.listing.proofs.print_table.Tie as tie

@@ -6,7 +6,7 @@ use borrow.Author.Tests.{lt-ltb, le-ltb}
 use Rattle.labels.specs.Labels.{labelCount}
 use Rattle.expression.specs.declared.Outcome.{Outcome}
 use Rattle.decisions.specs.Outcomes.{GroundedOutcome}
-use Rattle.calls.specs.Calls.{request}
+use Rattle.checks.specs.Requests.{request}
 use Rattle.host_words.proofs.Answers.{answered-short, answered-told}
 use Rattle.nuntennis.proofs.nuntennis_grounded.Statement.{statement}
 use Rattle.nuntennis.proofs.nuntennis_grounded.Tie as tie

@@ -40,7 +40,7 @@ use denote.Triple.Walked.{Stays, stay-none-ref, gave-slice, stay-none-slice, sta
 use denote.Exit.{yes}
 use denote.Signature.{plain}
 use Rattle.labels.specs.Labels.{labelCount}
-use Rattle.calls.specs.Calls.{request}
+use Rattle.checks.specs.Requests.{request}
 use Rattle.records.specs.Steps.{verdict as verdict-of}
 use Rattle.records.specs.declared.Record.{Record}
 use Rattle.host_words.specs.Answers.{returned, unlessShort, answerOf}

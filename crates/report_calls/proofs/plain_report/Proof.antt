@@ -12,8 +12,8 @@ use Rattle.expression.proofs.Accepted.{check-bytes}
 use Rattle.tables.specs.Definitions.{triples}
 use Rattle.decisions.specs.Decisions.{plainFault}
 use Rattle.reporting.specs.Reporting.{reportAnswer, reportBuffer}
-use Rattle.calls.specs.Calls.{request}
-use Rattle.calls.proofs.Outcomes.{accepted, area-small, plain-within}
+use Rattle.checks.specs.Requests.{request}
+use Rattle.checks.proofs.Passing.{accepted, area-small, plain-within}
 use Rattle.report_calls.specs.ReportCalls.{refusedReport}
 use Rattle.report_calls.proofs.Asked.{asked-refused, asked-nowhere, words-refused, words-nowhere, words-cleared, plain-answer, plain-buffer, starts-within}
 use borrow.Author.Needs.{needs}

@@ -14,8 +14,8 @@ use Rattle.decisions.specs.Decisions.{pairsFault}
 use Rattle.leaves.specs.declared.Tables.the-variants.{Pairs}
 use Rattle.reports.specs.Reports.{reportOf}
 use Rattle.reporting.specs.Reporting.{reportAnswer, reportBuffer}
-use Rattle.calls.specs.Calls.{request}
-use Rattle.calls.proofs.Outcomes.{accepted, area-small}
+use Rattle.checks.specs.Requests.{request}
+use Rattle.checks.proofs.Passing.{accepted, area-small}
 use Rattle.report_calls.specs.ReportCalls.{refusedReport}
 use Rattle.report_calls.proofs.Asked.{asked-refused, asked-nowhere, words-refused, words-nowhere, words-cleared, pairs-answer, pairs-buffer, starts-within}
 use borrow.Author.Needs.{needs}

@@ -4,7 +4,7 @@ use lib.ListN.{length}
 use Rattle.labels.specs.Labels.{labelCount}
 use Rattle.expression.specs.declared.Checked.the-variants.{Passed}
 use Rattle.expression.specs.Checks.{Request, check}
-use Rattle.calls.specs.Calls.{request}
+use Rattle.checks.specs.Requests.{request}
 use Rattle.steps.specs.Stepping.{refusedProgress}
 use Rattle.steps.proofs.Cases.{step-refused, step-unformed, step-formed, by-stays, by-all}
 use borrow.Author.Needs.{needs}

@@ -12,8 +12,8 @@ use Rattle.expression.specs.Checks.{Request}
 use Rattle.expression.specs.Commands.{readAt}
 use Rattle.entries.specs.declared.Carry.the-variants.{Nothing}
 use Rattle.walks.specs.Walks.{Stands, Advanced}
-use Rattle.calls.specs.Calls.{request}
-use Rattle.calls.proofs.Outcomes.{accepted}
+use Rattle.checks.specs.Requests.{request}
+use Rattle.checks.proofs.Passing.{accepted}
 use Rattle.records.specs.Steps.{found, moveTo, command}
 use Rattle.steps.proofs.Cases.{command-none, command-read, by-stays, by-all}
 use Rattle.steps.proofs.Standing.{bare}

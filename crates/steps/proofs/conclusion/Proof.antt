@@ -5,8 +5,8 @@ use native.Mathlib.Omega.{arith}
 use lib.ListN.{length}
 use Rattle.labels.specs.Labels.{labelCount}
 use Rattle.expression.specs.Checks.{Request}
-use Rattle.calls.specs.Calls.{request}
-use Rattle.calls.proofs.Outcomes.{accepted}
+use Rattle.checks.specs.Requests.{request}
+use Rattle.checks.proofs.Passing.{accepted}
 use Rattle.steps.proofs.Cases.{conclusion-early, conclusion-any}
 use Rattle.steps.proofs.Lengths.{eight}
 use Rattle.steps.proofs.Concluding.{first-within, first-rows, concludes-no, concludes-yes}

@@ -9,8 +9,8 @@ use Rattle.expression.specs.declared.Located.the-variants.{Before}
 use Rattle.expression.specs.Checks.{Request}
 use Rattle.expression.specs.Limits.{depthLimit}
 use Rattle.expression.specs.Places.{locate}
-use Rattle.calls.specs.Calls.{request}
-use Rattle.calls.proofs.Outcomes.{accepted}
+use Rattle.checks.specs.Requests.{request}
+use Rattle.checks.proofs.Passing.{accepted}
 use Rattle.steps.proofs.Cases.{unlocated, miscounted, malformed, well-formed}
 use Rattle.steps.proofs.Reached.{located-here}
 use Rattle.steps.proofs.Lengths.{eight}

@@ -5,8 +5,8 @@ use lib.ListN.{length}
 use Rattle.labels.specs.Labels.{labelCount}
 use Rattle.expression.specs.declared.Checked.the-variants.{Passed}
 use Rattle.expression.specs.Checks.{Request, check}
-use Rattle.calls.specs.Calls.{request}
-use Rattle.calls.proofs.Outcomes.{accepted, area-small}
+use Rattle.checks.specs.Requests.{request}
+use Rattle.checks.proofs.Passing.{accepted, area-small}
 use Rattle.steps.specs.Stepping.{refusedProgress}
 use Rattle.steps.proofs.Cases.{start-refused, start-follows, by-stays}
 use borrow.Author.Needs.{needs}

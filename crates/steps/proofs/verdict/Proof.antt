@@ -4,14 +4,13 @@ use lib.ListN.{length}
 use Rattle.labels.specs.Labels.{labelCount}
 use Rattle.expression.specs.declared.Checked.the-variants.{Passed}
 use Rattle.expression.specs.Checks.{Request, check}
-use Rattle.engine.specs.Engine.{refusalOutcome}
-use Rattle.calls.specs.Calls.{request}
+use Rattle.checks.specs.Requests.{request, refusalOutcome}
 use Rattle.steps.proofs.Cases.{verdict-refused, verdict-unformed, verdict-formed}
 use borrow.Author.Needs.{needs}
 use Rattle.steps.proofs.verdict.Statement.{statement}
 use Rattle.steps.proofs.verdict.Tie as tie
 use Rattle.checks.proofs.checking.check.Reads as check-reads
-use Rattle.engine.proofs.refusal.Reads as refusal-reads
+use Rattle.checks.proofs.outcomes.refusal.Reads as refusal-reads
 use Rattle.steps.proofs.conclusion.Reads as conclusion-reads
 use Rattle.steps.proofs.formed_at.Reads as formed-at-reads
 

@@ -1,11 +1,11 @@
--- `engine::refusal`: the variants one for one.
+-- `outcomes::refusal`: the variants one for one.
 use mathlib.Core.Path.{sym, ap}
-use Rattle.engine.specs.Engine.{refusalOutcome}
+use Rattle.checks.specs.Requests.{refusalOutcome}
 use borrow.Author.Needs.{needs}
 use native.Mathlib.Omega.{arith}
 use borrow.Author.Needs.{needs}
-use Rattle.engine.proofs.refusal.Statement.{statement}
-use Rattle.engine.proofs.refusal.Tie as tie
+use Rattle.checks.proofs.outcomes.refusal.Statement.{statement}
+use Rattle.checks.proofs.outcomes.refusal.Tie as tie
 
 enum-told : tie.Need-enum-told
 enum-told c = search needs
