@@ -1,136 +1,66 @@
-// What a decision and a report answer on a small sheet.
-ghost use Prim.Native.Nat.{_<_, _≤_};
-ghost use lib.ListN.{length};
-use crate::Reported;
+// What a decision answers on a small sheet: answers by the rules alone, refusals by the tables.
+use crate::Answer;
+use crate::NO;
+use crate::NOT_TRIED;
+use crate::REFUSED;
 use crate::Request;
-use crate::Verdict;
+use crate::YES;
+use crate::answered;
 use crate::checking::check;
-use crate::policy::Policy;
-use crate::policy::advance;
-use crate::policy::no_policy;
-use crate::policy::refused;
-use crate::rows::atoms_of;
-use crate::rows::count_pairs;
-use crate::rows::count_triples;
-use crate::rows::has_over;
-use crate::rows::make_rows;
-use crate::rows::make_triples;
-use crate::rows::obeys;
-use crate::rows::unmet;
-use expression::refusals::PLANS_FULL;
-use expression::refusals::SUBSETS_FULL;
+use crate::entries::is_least;
+use crate::entries::is_model;
+use crate::entries::obeys;
+use crate::walks::is_large;
+use crate::walks::walk;
+use policies::Policy;
 
-// ---- decisions
-
-// Whether some answer set (01: grounded plan) obeys the pins.
-pub fn grounded(s: &[u8], q: Request) -> Verdict {
-    let mut rows = [0u32; 16384];
-    decide(s, q, false, &mut rows)
+// Whether some answer set (01: grounded plan) obeys the pins; of a plain request, whether some model does.
+pub fn decide(s: &[u8], q: Request) -> Answer {
+    let mut words = [0u32; 16512];
+    decide_by(s, q, &mut words)
 }
 
-// Whether some interpretation that obeys the pins is a model (01: meets every rule).
-pub fn plain(s: &[u8], q: Request) -> Verdict {
-    let mut rows = [0u32; 16384];
-    decide(s, q, true, &mut rows)
-}
-
-fn decide(s: &[u8], q: Request, is_plain: bool, rows: &mut [u32; 16384]) -> Verdict {
-    let checked = check(s, q);
-    if checked.fault != 0 {
-        return Verdict::Refused(checked.fault, checked.place);
-    }
-    if is_large(checked) {
-        return Verdict::NotTried;
-    }
-    let p = walk(s, q, is_plain, s.len(), rows);
+fn decide_by(s: &[u8], q: Request, words: &mut [u32; 16512]) -> Answer {
+    let p = check(s, q);
     if p.fault != 0 {
-        return Verdict::Refused(p.fault, p.place);
+        return answered(REFUSED, p.fault, p.place);
     }
-    if has_model(p, q, is_plain) {
-        return Verdict::Yes;
+    if is_large(p) {
+        return answered(NOT_TRIED, 0, 0);
     }
-    Verdict::No
+    let walked = walk(s, q, s.len(), words);
+    if walked.fault != 0 {
+        return answered(REFUSED, walked.fault, walked.place);
+    }
+    if has_answer(p, q) {
+        return answered(YES, 0, 0);
+    }
+    answered(NO, 0, 0)
 }
 
-pub fn is_large(p: Policy) -> bool {
-    p.atoms > 7 || p.rules > 8
-}
-
-// The commands that start before an offset done, each table made from nothing and held against the limits (15, 16).
-pub fn walk(s: &[u8], q: Request, is_plain: bool, end: usize, rows: &mut [u32; 16384]) -> Policy
-    requires { ⌜ end ≤ length (now s) ⌝ }
-{
-    let mut p = no_policy();
-    while p.at < end {
-        p = advance(s, p);
-        let fault = table_fault(p, q, is_plain, rows);
-        if fault != 0 {
-            return refused(p, fault);
-        }
-    }
-    p
-}
-
-fn table_fault(p: Policy, q: Request, is_plain: bool, rows: &mut [u32; 16384]) -> u64 {
-    if is_plain {
-        make_triples(rows, p, q);
-        if count_triples(rows) > q.pair_limit {
-            return PLANS_FULL;
-        }
-        return 0;
-    }
-    make_rows(rows, p, q);
-    pairs_fault(atoms_of(p), q, rows)
-}
-
-fn pairs_fault(atoms: u64, q: Request, rows: &[u32; 16384]) -> u64
-    requires { ⌜ atoms < 128 ⌝ }
-{
-    if has_over(rows, atoms, q, q.subset_limit) {
-        return SUBSETS_FULL;
-    }
-    if count_pairs(rows, atoms, q) > q.pair_limit {
-        return PLANS_FULL;
-    }
-    0
-}
-
-// ---- answers by the rules alone
-
-// Whether some interpretation of a joined sheet's atoms that obeys the pins is a model; unless plain, an answer set.
-fn has_model(p: Policy, q: Request, is_plain: bool) -> bool {
-    let atoms = atoms_of(p);
+fn has_answer(p: Policy, q: Request) -> bool {
     let mut i: u64 = 0;
-    while i <= atoms {
-        if obeys(i, atoms, q) {
-            if is_plain {
-                if unmet(p, i, i) == 0 {
-                    return true;
-                }
-            } else if is_stable(p, i) {
-                return true;
-            }
+    while i < 128 {
+        if is_answer(p, q, i) {
+            return true;
         }
         i += 1;
     }
     false
 }
 
-// Whether an interpretation is a model and no proper subset of it is a model of its reduct.
-fn is_stable(p: Policy, i: u64) -> bool {
-    if unmet(p, i, i) != 0 {
+// Whether an interpretation of a joined sheet's atoms obeys the pins and is a model; unless plain, an answer set.
+fn is_answer(p: Policy, q: Request, i: u64) -> bool {
+    if !obeys(p, i, q) {
         return false;
     }
-    let mut j: u64 = 0;
-    while j < i {
-        if j & !i == 0 {
-            if unmet(p, i, j) == 0 {
-                return false;
-            }
-        }
-        j += 1;
+    if !is_model(p, i, i) {
+        return false;
     }
-    true
+    if q.is_plain {
+        return true;
+    }
+    is_least(p, i)
 }
 
 // Whether a mask may be shown with a yes: an answer set that obeys the pins, of the sheet's atoms alone.
@@ -139,8 +69,5 @@ pub fn is_answer_set(s: &[u8], q: Request, mask: u64) -> bool {
     if p.fault != 0 || is_large(p) {
         return false;
     }
-    if !obeys(mask, atoms_of(p), q) {
-        return false;
-    }
-    is_stable(p, mask)
+    is_answer(p, q, mask)
 }

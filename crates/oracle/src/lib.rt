@@ -3,10 +3,9 @@
 // mean is proved (crate meaning); all else here is proved to stay within bounds and to end, and is right as far as it is tried (crate trials).
 pub mod answers;
 pub mod checking;
-pub mod generator;
-pub mod policy;
-pub mod reports;
+pub mod entries;
 pub mod rows;
+pub mod walks;
 
 // The arguments of a decision or a report beside the sheet.
 pub struct Request {
@@ -18,20 +17,31 @@ pub struct Request {
     // the pins as masks
     pub assumed_true: u64,
     pub assumed_false: u64,
+    // of the plain tables
+    pub is_plain: bool,
 }
 
-pub enum Verdict {
-    Yes,
-    No,
-    // number and place
-    Refused(u64, usize),
-    // more atoms or rules than are kept
-    NotTried,
+// What a decision or a report answers. A yes has no value here: which masks may be shown, answers::is_answer_set says. A report has the kind YES,
+// its number of entries for a value, and in place of a place its number of words.
+pub struct Answer {
+    pub kind: u64,
+    pub value: u64,
+    pub place: usize,
 }
 
-pub enum Reported {
-    // how many entries and words were written
-    Table(u64, usize),
-    Refused(u64, usize),
-    NotTried,
+pub const NO: u64 = 0;
+
+pub const YES: u64 = 1;
+
+pub const REFUSED: u64 = 2;
+
+// More atoms or rules than are kept.
+pub const NOT_TRIED: u64 = 3;
+
+pub fn answered(kind: u64, value: u64, place: usize) -> Answer {
+    Answer {
+        kind: kind,
+        value: value,
+        place: place,
+    }
 }

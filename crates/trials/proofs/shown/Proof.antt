@@ -5,10 +5,10 @@ use Rattle.trials.proofs.shown.Statement.{statement}
 use Rattle.trials.proofs.shown.Tie as tie
 
 abbrev Inv-loop : tie.InvT-loop
-Inv-loop s q set₀ mask₀ set mask = mask ≤ 64
+Inv-loop s q set₀ mask₀ set mask = mask ≤ 8
 
 abbrev μ-loop : tie.MeasureT-loop
-μ-loop s q set₀ mask₀ set mask = 64 - mask
+μ-loop s q set₀ mask₀ set mask = 8 - mask
 
 loop-holds : tie.Need-loop-holds Inv-loop μ-loop
 loop-holds c = search needs
