@@ -32,21 +32,19 @@ fn decide_by(s: &[u8], q: Request, words: &mut [u32; 16512]) -> Answer {
     if walked.fault != 0 {
         return answered(REFUSED, walked.fault, walked.place);
     }
-    if has_answer(p, q) {
-        return answered(YES, 0, 0);
-    }
-    answered(NO, 0, 0)
+    enumerate(p, q)
 }
 
-fn has_answer(p: Policy, q: Request) -> bool {
+// The first interpretation that answers.
+fn enumerate(p: Policy, q: Request) -> Answer {
     let mut i: u64 = 0;
     while i < 128 {
         if is_answer(p, q, i) {
-            return true;
+            return answered(YES, i, 0);
         }
         i += 1;
     }
-    false
+    answered(NO, 0, 0)
 }
 
 // Whether an interpretation of a joined sheet's atoms obeys the pins and is a model; unless plain, an answer set.

@@ -21,8 +21,8 @@ pub struct Request {
     pub is_plain: bool,
 }
 
-// What a decision or a report answers. A yes has no value here: which masks may be shown, answers::is_answer_set says. A report has the kind YES,
-// its number of entries for a value, and in place of a place its number of words.
+// What a decision or a report answers: the value of a yes is the least mask that may be shown; a report has the kind YES, its number of entries for a
+// value, and in place of a place its number of words.
 pub struct Answer {
     pub kind: u64,
     pub value: u64,

@@ -1,12 +1,15 @@
 -- `decode` is safe and ends. Assumes nothing.
 use Prim.Native.Nat.{_-_, _≤_}
 use lib.ListN.{length}
+use mathlib.Core.Path.{_≡_, sym}
+use native.Mathlib.Omega.{arith}
+use lib.Seq.{length-take-le}
 use borrow.Author.Needs.{needs}
 use Rattle.trials.proofs.decode.Statement.{statement}
 use Rattle.trials.proofs.decode.Tie as tie
 
 abbrev Inv-loop : tie.InvT-loop
-Inv-loop text list₀ n₀ remark₀ k₀ list n remark k = (n ≤ k) × (k ≤ length text)
+Inv-loop text list₀ n₀ remark₀ k₀ list n remark k = (n ≤ k) × (k ≤ length text) × (length list ≡ length list₀)
 
 abbrev μ-loop : tie.MeasureT-loop
 μ-loop text list₀ n₀ remark₀ k₀ list n remark k = length text - k
@@ -38,8 +41,11 @@ loop-less c = search needs
 loop-again : tie.Need-loop-again Inv-loop μ-loop
 loop-again c = search needs
 
+same-length : tie.Need-same-length Inv-loop μ-loop
+same-length c = search needs
+
 returns : tie.Need-returns Inv-loop μ-loop
-returns c = search needs
+returns c = (omega arith, sym (length-take-le _ _ (omega arith)))
 
 pub decode-spec : {M : Type 1} → statement M
 decode-spec =
@@ -56,4 +62,5 @@ decode-spec =
     add-k
     loop-less
     loop-again
+    same-length
     returns)
