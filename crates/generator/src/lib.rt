@@ -3,7 +3,7 @@ ghost use mathlib.Core.Path.{_≡_};
 ghost use Prim.Native.Nat.{_+_, _*_, _<_, _≤_};
 ghost use lib.ListN.{length, take};
 
-// Marsaglia's xorshift; 0 is its one fixed point.
+// Marsaglia's xorshift; 0 is its one fixed point. It is linear over bits: what has to be drawn apart from a seed starts from a quotient of it.
 pub fn next_seed(x: u64) -> u64 {
     let a = x ^ (x << 13);
     let b = a ^ (a >> 7);
@@ -130,7 +130,7 @@ pub fn sheet(style: u64, seed: u64, out: &mut [u8]) -> usize
     if style != DAMAGED {
         return n;
     }
-    damage(drawn(next_seed(seed)), n, out)
+    damage(drawn(next_seed(seed / 3)), n, out)
 }
 
 fn draft(style: u64, seed: u64, out: &mut [u8]) -> usize
@@ -214,14 +214,14 @@ fn damage(x: u64, n: usize, out: &mut [u8]) -> usize
 
 // ---- limits and pins
 
-// Once in many 0 or one beyond the greatest; 128 is enough for every sheet that is valid.
+// Once in many 0 or one beyond the greatest.
 pub fn limit(x: u64) -> u64 {
     match x % 128 {
         0 => 0,
         1 => 1025,
         2..=15 => 1 + x / 128 % 4,
         16..=31 => 1 + x / 128 % 16,
-        32..=47 => 128,
+        32..=47 => 64,
         _ => 32,
     }
 }

@@ -1,11 +1,11 @@
 // Document 01 by enumeration, from the meaning of the rules alone: what a small sheet says, its tables and its answers. For testing the engine
 // against; slow and simple. It shares with the engine the limits' and refusals' numbers and no function or definition of tables. What a rule and pins
 // mean is proved (crate meaning); all else here is proved to stay within bounds and to end, and is right as far as it is tried (crate trials).
-pub mod answers;
 pub mod checking;
-pub mod entries;
-pub mod rows;
-pub mod walks;
+pub mod deciding;
+pub mod tabulating;
+pub mod triples;
+pub mod walking;
 
 // The arguments of a decision or a report beside the sheet.
 pub struct Request {

@@ -7,8 +7,8 @@ use libc::STDIN_FILENO;
 use libc::STDOUT_FILENO;
 use oracle::Answer;
 use oracle::Request;
-use oracle::answers::decide;
-use oracle::walks::report;
+use oracle::deciding::decide;
+use oracle::walking::report;
 
 // ---- the list: pairs of hexadecimal digits; a line that starts with # says what follows
 
