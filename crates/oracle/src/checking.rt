@@ -1,10 +1,5 @@
 // The checks that come before any table: 1 to 13 in 01's order.
-ghost use Prim.Native.Nat.{_≤_};
 use crate::Request;
-use crate::policy::Policy;
-use crate::policy::advance;
-use crate::policy::no_policy;
-use crate::policy::refused;
 use expression::limits::BYTE_LIMIT;
 use expression::limits::TABLE_LIMIT;
 use expression::refusals::ABSENT;
@@ -13,6 +8,10 @@ use expression::refusals::CRAMPED;
 use expression::refusals::LIMITS;
 use expression::refusals::OVERLONG;
 use expression::refusals::UNJOINED;
+use policies::Policy;
+use policies::no_policy;
+use policies::reading::read_to;
+use policies::refused;
 
 // The whole sheet read. A refusal stands in `fault` and `place`.
 pub fn check(s: &[u8], q: Request) -> Policy {
@@ -20,15 +19,22 @@ pub fn check(s: &[u8], q: Request) -> Policy {
     if fault != 0 {
         return refused(no_policy(), fault);
     }
-    let p = read_all(s);
+    let p = read_to(s, s.len());
     if p.fault != 0 {
         return p;
     }
+    ended(p, q, s.len())
+}
+
+// 12 and 13.
+fn ended(p: Policy, q: Request, end: usize) -> Policy {
+    let mut next = p;
+    next.place = end;
     if p.depth != 1 {
-        return refused_at(p, UNJOINED, s.len());
+        return refused(next, UNJOINED);
     }
-    if has_absent(q.assumed_true | q.assumed_false, p.atoms) {
-        return refused_at(p, ABSENT, s.len());
+    if has_absent(q.assumed_true | q.assumed_false, p.atoms.count) {
+        return refused(next, ABSENT);
     }
     p
 }
@@ -38,10 +44,10 @@ fn request_fault(bytes: usize, q: Request) -> u64 {
     if bytes > BYTE_LIMIT {
         return OVERLONG;
     }
-    if q.pair_limit < 1 || q.pair_limit > TABLE_LIMIT {
+    if !is_limit(q.pair_limit) {
         return LIMITS;
     }
-    if q.subset_limit < 1 || q.subset_limit > TABLE_LIMIT {
+    if !is_limit(q.subset_limit) {
         return LIMITS;
     }
     if is_cramped(q.room, q.pair_limit, q.subset_limit) {
@@ -53,39 +59,19 @@ fn request_fault(bytes: usize, q: Request) -> u64 {
     0
 }
 
-fn is_cramped(room: u64, p: u64, g: u64) -> bool
-    requires { ⌜ (p ≤ 1024) × (g ≤ 1024) ⌝ }
-{
-    room < 9 * (p * (g + 2))
-}
-
-// Every command up to the end, or up to the first with a fault.
-fn read_all(s: &[u8]) -> Policy {
-    let mut p = no_policy();
-    while p.at < s.len() {
-        p = advance(s, p);
-        if p.fault != 0 {
-            return p;
-        }
+fn is_limit(x: u64) -> bool {
+    if x < 1 {
+        return false;
     }
-    p
+    x <= TABLE_LIMIT
 }
 
-fn refused_at(p: Policy, fault: u64, place: usize) -> Policy {
-    let mut next = p;
-    next.fault = fault;
-    next.place = place;
-    next
+// room < 9 × P × (G + 2), for limits that are such; said with quotients, no product is too large.
+fn is_cramped(room: u64, p: u64, g: u64) -> bool {
+    room / 9 / (g % 2048 + 2) < p
 }
 
-// Whether an atom is in the mask that isn't among the first n.
+// Whether an atom is in the mask that isn't among the first n; n is at most 63.
 fn has_absent(mask: u64, n: u64) -> bool {
-    let mut k: u64 = 0;
-    while k < 64 {
-        if (mask >> k) % 2 == 1 && k >= n {
-            return true;
-        }
-        k += 1;
-    }
-    false
+    mask >> (n % 64) != 0
 }

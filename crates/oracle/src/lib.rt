@@ -1,12 +1,11 @@
 // Document 01 by enumeration, from the meaning of the rules alone: what a small sheet says, its tables and its answers. For testing the engine
 // against; slow and simple. It shares with the engine the limits' and refusals' numbers and no function or definition of tables. What a rule and pins
 // mean is proved (crate meaning); all else here is proved to stay within bounds and to end, and is right as far as it is tried (crate trials).
-pub mod answers;
 pub mod checking;
-pub mod generator;
-pub mod policy;
-pub mod reports;
-pub mod rows;
+pub mod deciding;
+pub mod tabulating;
+pub mod triples;
+pub mod walking;
 
 // The arguments of a decision or a report beside the sheet.
 pub struct Request {
@@ -18,20 +17,31 @@ pub struct Request {
     // the pins as masks
     pub assumed_true: u64,
     pub assumed_false: u64,
+    // of the plain tables
+    pub is_plain: bool,
 }
 
-pub enum Verdict {
-    Yes,
-    No,
-    // number and place
-    Refused(u64, usize),
-    // more atoms or rules than are kept
-    NotTried,
+// What a decision or a report answers: the value of a yes is the least mask that may be shown; a report has the kind YES, its number of entries for a
+// value, and in place of a place its number of words.
+pub struct Answer {
+    pub kind: u64,
+    pub value: u64,
+    pub place: usize,
 }
 
-pub enum Reported {
-    // how many entries and words were written
-    Table(u64, usize),
-    Refused(u64, usize),
-    NotTried,
+pub const NO: u64 = 0;
+
+pub const YES: u64 = 1;
+
+pub const REFUSED: u64 = 2;
+
+// More atoms or rules than are kept.
+pub const NOT_TRIED: u64 = 3;
+
+pub fn answered(kind: u64, value: u64, place: usize) -> Answer {
+    Answer {
+        kind: kind,
+        value: value,
+        place: place,
+    }
 }

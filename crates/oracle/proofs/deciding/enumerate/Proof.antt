@@ -1,0 +1,54 @@
+-- `deciding::enumerate` is safe and ends. Assumes nothing.
+use Prim.Native.Nat.{_-_, _≤_}
+use borrow.Author.Needs.{needs}
+use Rattle.oracle.proofs.deciding.enumerate.Statement.{statement}
+use Rattle.oracle.proofs.deciding.enumerate.Tie as tie
+
+abbrev Inv-loop : tie.InvT-loop
+Inv-loop p q i₀ i = i ≤ 128
+
+abbrev μ-loop : tie.MeasureT-loop
+μ-loop p q i₀ i = 128 - i
+
+loop-holds : tie.Need-loop-holds Inv-loop μ-loop
+loop-holds c = search needs
+
+is-answer-requires : tie.Need-is-answer-requires Inv-loop μ-loop
+is-answer-requires c κs = search needs
+
+answered-requires : tie.Need-answered-requires Inv-loop μ-loop
+answered-requires c κs = search needs
+
+returns : tie.Need-returns Inv-loop μ-loop
+returns c = search needs
+
+add-i : tie.Need-add-i Inv-loop μ-loop
+add-i c = search needs
+
+loop-less : tie.Need-loop-less Inv-loop μ-loop
+loop-less c = search needs
+
+loop-again : tie.Need-loop-again Inv-loop μ-loop
+loop-again c = search needs
+
+answered-requires-2 : tie.Need-answered-requires-2 Inv-loop μ-loop
+answered-requires-2 c κs = search needs
+
+returns-2 : tie.Need-returns-2 Inv-loop μ-loop
+returns-2 c = search needs
+
+pub enumerate-spec : {M : Type 1} → statement M
+enumerate-spec =
+    tie.close
+    (tie.spec
+    Inv-loop
+    μ-loop
+    loop-holds
+    is-answer-requires
+    answered-requires
+    returns
+    add-i
+    loop-less
+    loop-again
+    answered-requires-2
+    returns-2)

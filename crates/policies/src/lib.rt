@@ -1,0 +1,58 @@
+// What the commands of a sheet build (01, "The sheet"), read byte by byte from the document alone: the oracle's reading, which shares with the engine's
+// only the limits' and refusals' numbers. Proved to stay within bounds and to end; right as far as it is tried.
+pub mod building;
+pub mod reading;
+pub mod sets;
+
+// Atoms (01: copies), or rules. The first eight are kept, the others counted.
+pub struct Members {
+    pub count: u64,
+    // for each label (01: group) and for each operand (01: part) the set of its members; see the module sets
+    pub labels: u64,
+    pub operands: u64,
+}
+
+// What the commands so far built. An operand's number is the depth at which it stands on the stack: the newest is number `depth`.
+pub struct Policy {
+    // where the next command starts
+    pub at: usize,
+    // the refusal of the last command, 0 if none, and where it started
+    pub fault: u64,
+    pub place: usize,
+    pub depth: u64,
+    pub atoms: Members,
+    pub rules: Members,
+    // for each rule the three sets of atoms (01: head, needed, barring)
+    pub heads: u64,
+    pub positives: u64,
+    pub negatives: u64,
+}
+
+// Before the first command.
+pub fn no_policy() -> Policy {
+    Policy {
+        at: 0,
+        fault: 0,
+        place: 0,
+        depth: 0,
+        atoms: no_members(),
+        rules: no_members(),
+        heads: 0,
+        positives: 0,
+        negatives: 0,
+    }
+}
+
+fn no_members() -> Members {
+    Members {
+        count: 0,
+        labels: 0,
+        operands: 0,
+    }
+}
+
+pub fn refused(p: Policy, fault: u64) -> Policy {
+    let mut next = p;
+    next.fault = fault;
+    next
+}

@@ -1,0 +1,50 @@
+-- `print_counts` is safe and ends. Assumes nothing.
+use Prim.Native.Nat.{_-_, _≤_}
+use borrow.Author.Needs.{needs}
+use Rattle.vectors.proofs.print_counts.Statement.{statement}
+use Rattle.vectors.proofs.print_counts.Tie as tie
+
+abbrev Inv-loop : tie.InvT-loop
+Inv-loop counts k₀ k = k ≤ 64
+
+abbrev μ-loop : tie.MeasureT-loop
+μ-loop counts k₀ k = 64 - k
+
+loop-holds : tie.Need-loop-holds Inv-loop μ-loop
+loop-holds c = search needs
+
+mul-print-count : tie.Need-mul-print-count Inv-loop μ-loop
+mul-print-count c = search needs
+
+element-copy-out-print-count : tie.Need-element-copy-out-print-count Inv-loop μ-loop
+element-copy-out-print-count c = search needs
+
+print-count-requires : tie.Need-print-count-requires Inv-loop μ-loop
+print-count-requires c κs = search needs
+
+add-k : tie.Need-add-k Inv-loop μ-loop
+add-k c = search needs
+
+loop-less : tie.Need-loop-less Inv-loop μ-loop
+loop-less c = search needs
+
+loop-again : tie.Need-loop-again Inv-loop μ-loop
+loop-again c = search needs
+
+returns : tie.Need-returns Inv-loop μ-loop
+returns c = search needs
+
+pub print-counts-spec : {M : Type 1} → statement M
+print-counts-spec =
+    tie.close
+    (tie.spec
+    Inv-loop
+    μ-loop
+    loop-holds
+    mul-print-count
+    element-copy-out-print-count
+    print-count-requires
+    add-k
+    loop-less
+    loop-again
+    returns)
