@@ -206,14 +206,20 @@ static outcome decide(const request *r, unsigned (*run)(state *, const command *
     return o;
 }
 
+// Both decisions: by the commands on tables, and what the last table says.
+static uint64_t answer_decision(request r, unsigned (*run)(state *, const command *), outcome (*end)(const state *),
+                                uint64_t *answer, size_t answer_len)
+{
+    return answer_len < 3 ? 0 : say(decide(&r, run, end), answer);
+}
+
 uint64_t reference_grounded(const uint8_t *sheet, size_t sheet_len,
                             uint64_t plan_limit, uint64_t subset_limit, uint64_t pins_in, uint64_t pins_out,
                             uint32_t *workspace, size_t workspace_len,
                             uint64_t *answer, size_t answer_len)
 {
-    if (answer_len < 3) return 0;
     request r = {sheet, sheet_len, plan_limit, subset_limit, pins_in, pins_out, workspace, workspace_len};
-    return say(decide(&r, run_command, conclude), answer);
+    return answer_decision(r, run_command, conclude, answer, answer_len);
 }
 
 uint64_t reference_plain(const uint8_t *sheet, size_t sheet_len,
@@ -221,9 +227,8 @@ uint64_t reference_plain(const uint8_t *sheet, size_t sheet_len,
                          uint32_t *workspace, size_t workspace_len,
                          uint64_t *answer, size_t answer_len)
 {
-    if (answer_len < 3) return 0;
     request r = {sheet, sheet_len, plan_limit, subset_limit, pins_in, pins_out, workspace, workspace_len};
-    return say(decide(&r, run_plain_command, conclude_plain), answer);
+    return answer_decision(r, run_plain_command, conclude_plain, answer, answer_len);
 }
 
 static outcome report_on(const request *r, size_t asked, unsigned (*run)(state *, const command *),
@@ -238,15 +243,22 @@ static outcome report_on(const request *r, size_t asked, unsigned (*run)(state *
     return o;
 }
 
+// Both reports: by the commands on tables, and how the newest table is written.
+static uint64_t answer_report(request r, size_t asked, unsigned (*run)(state *, const command *),
+                              outcome (*write)(state *, uint32_t *, size_t, size_t), uint32_t *report, size_t report_len,
+                              uint64_t *answer, size_t answer_len)
+{
+    return answer_len < 3 ? 0 : say(report_on(&r, asked, run, write, report, report_len), answer);
+}
+
 uint64_t reference_report(const uint8_t *sheet, size_t sheet_len, size_t asked,
                           uint64_t plan_limit, uint64_t subset_limit, uint64_t pins_in, uint64_t pins_out,
                           uint32_t *workspace, size_t workspace_len,
                           uint32_t *report, size_t report_len,
                           uint64_t *answer, size_t answer_len)
 {
-    if (answer_len < 3) return 0;
     request r = {sheet, sheet_len, plan_limit, subset_limit, pins_in, pins_out, workspace, workspace_len};
-    return say(report_on(&r, asked, run_command, write_pairs, report, report_len), answer);
+    return answer_report(r, asked, run_command, write_pairs, report, report_len, answer, answer_len);
 }
 
 uint64_t reference_plain_report(const uint8_t *sheet, size_t sheet_len, size_t asked,
@@ -255,7 +267,6 @@ uint64_t reference_plain_report(const uint8_t *sheet, size_t sheet_len, size_t a
                                 uint32_t *report, size_t report_len,
                                 uint64_t *answer, size_t answer_len)
 {
-    if (answer_len < 3) return 0;
     request r = {sheet, sheet_len, plan_limit, subset_limit, pins_in, pins_out, workspace, workspace_len};
-    return say(report_on(&r, asked, run_plain_command, write_triples, report, report_len), answer);
+    return answer_report(r, asked, run_plain_command, write_triples, report, report_len, answer, answer_len);
 }

@@ -2,4 +2,3 @@ pub mod Marks
 pub mod Mapping
 pub mod Uniting
 pub mod Making
-pub mod Changing

@@ -3,9 +3,9 @@ use mathlib.Core.Path.{_≡_, refl, sym, ap, _∙_}
 use mathlib.Core.List.{List, [], _∷_, _++_, append-assoc}
 use Prim.Native.Nat.{ℕ, _+_, _-_, _≤_, _<_}
 use native.Mathlib.Omega.{arith}
-use lib.ListN.{getD, length, take, drop, set, length-take, length-drop, length-set}
+use lib.ListN.{getD, length, take, drop, set, length-take, length-drop}
 use lib.Seq.{take-at}
-use borrow.Rule.Slice.PartMut.{putMid, midOf, same-len-mid}
+use borrow.Rule.Slice.PartMut.{putMid, midOf}
 use Rattle.runs.specs.Runs.{Grown}
 use Rattle.candidates.specs.Candidates.{pairOf, Made}
 
@@ -41,14 +41,6 @@ holds row xs ys q m h g l = record { fits = λ k. made row xs ys q m h g l; full
 pub exceeds : (row xs ys row' : List ℕ) (q m : ℕ) → 2 ≤ length row → Grown xs m (behind row) ys → length row - 2 < m → Made (length row) m (q ∷ xs) row'
 exceeds row xs ys row' q m h g l =
     record { fits = λ k. absurd (omega arith); full = λ k. omega (arith, g .full (omega (arith, room row)), room row) }
-
--- they are known to fit, and the triple has another name
-pub filled : (row xs ys : List ℕ) (p q m : ℕ) → 2 ≤ length row → length ys ≡ length (behind row) → q ≡ p → Grown xs m (behind row) ys → m ≤ length (behind row)
-    → (m ≡ getD (written row ys q m) 1 0) × (2 + m ≤ length (written row ys q m)) × (pairOf (written row ys q m) ≡ p ∷ xs)
-filled row xs ys p q m h e f g l =
-    let w = made row xs ys q m h g (omega (arith, room row)) in
-    let long = same-len-mid 2 (length row - 2) row ys e in
-    (sym (w .0), simp length-set (omega (arith, room row)), w .1 ∙ ap (λ (t : ℕ). t ∷ xs) f)
 
 -- the subsets of a row within a row as long
 pub no-more : (src row : List ℕ) (n : ℕ) → length src ≤ length row → length (take n (drop 2 src)) ≤ length (behind row)

@@ -1,22 +1,14 @@
--- What a command makes of a triple, by the command's form, and of the subsets of a pair, one by one. Assumes nothing.
+-- What a command makes of a triple, by the command's form. Assumes nothing.
 use mathlib.Core.Path.{_≡_, ap, _∙_}
 use mathlib.Core.Bool.{Bool, cond}
-use mathlib.Core.List.{List, [], _∷_, map}
-use Prim.Native.Nat.{ℕ, _+_, _*_, _≤_, _<_}
-use lib.ListN.{length, getD, take, drop}
-use Rattle.lists.specs.Sorted.{compareNumbers, second, Rising, insert, canon, setOf}
-use Rattle.lists.proofs.Canon.{rising-canon}
-use Rattle.lists.proofs.Comparisons.{numbers-lawful}
+use Prim.Native.Nat.{ℕ, _+_, _*_, _<_}
 use Rattle.labels.specs.Sets.{without, replace}
 use Rattle.expression.specs.declared.Kind.{Kind}
 use Rattle.expression.specs.declared.Command.{Command}
 use Rattle.expression.specs.declared.Command.the-variants.{Atom, Rule, Union, Relabel, Connect}
 use Rattle.expression.specs.Commands.{Suits}
 use Rattle.tables.specs.Triples.{settles, relabelTriple, connectTriple}
-use Rattle.tables.specs.Definitions.{Pair, subsets, mapPair}
-use Rattle.runs.specs.Runs.{Grown}
-use Rattle.runs.proofs.Growing.{Going, empty, step, one, map-at}
-use Rattle.candidates.specs.Candidates.{mapTriple, mapPairBy}
+use Rattle.candidates.specs.Candidates.{mapTriple}
 
 -- the three sets of a triple, relabelled one after the other
 pub relabelled-sets : (K i j r u f t : ℕ) → u ≡ replace (2 * K + i) (2 * K + j) r → f ≡ replace (K + i) (K + j) u → t ≡ replace i j f → t ≡ relabelTriple K i j r
@@ -51,19 +43,3 @@ module _ (K : ℕ) (c : Command) where
   pub union-leaves : (q r : ℕ) → c ≡ Union → r ≡ mapTriple K c q r
   unfolding mapTriple
   union-leaves q r e = rw e
-
-  -- the run is empty, and with all triples to come it becomes the definition's set
-  pub begins : (q : ℕ) (s run : List ℕ) → Going (subsets (mapPairBy K c (q ∷ s))) (map (mapTriple K c q) s) 0 run run
-  unfolding mapPairBy mapPair setOf canon
-  begins q s run = empty (map (mapTriple K c q) s) run
-
-  -- the next triple is put in
-  pub goes-on : (goal s : List ℕ) (q i x m r : ℕ) (run run' run₀ : List ℕ) → i < length s → x ≡ mapTriple K c q (getD s i 0)
-      → Going goal (map (mapTriple K c q) (drop i s)) m run run₀ → Grown (insert compareNumbers second x (take m run)) r run run' → r ≤ length run
-      → Going goal (map (mapTriple K c q) (drop (i + 1) s)) r run' run₀
-  goes-on goal s q i x m r run run' run₀ h e g w l =
-      step goal (x ∷ []) (map (mapTriple K c q) (drop (i + 1) s)) m r run run' run₀ (rw (map-at (mapTriple K c q) s i h, ← e) at g) (one x (take m run) r run run' w) l
-
-  pub mapped-rising : (x : Pair) → Rising compareNumbers (subsets (mapPairBy K c x))
-  unfolding mapPairBy mapPair setOf
-  mapped-rising x = rising-canon numbers-lawful _

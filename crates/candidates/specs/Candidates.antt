@@ -1,15 +1,12 @@
 -- Rows of words that hold pairs, and what commands make of pairs, over K labels. Assumes nothing.
 use mathlib.Core.Path.{_≡_}
-use mathlib.Core.Bool.{Bool, not}
 use mathlib.Core.List.{List, _∷_}
 use Prim.Native.Nat.{ℕ, _+_, _≤_, _<_}
-use lib.Dec.{eqb}
 use lib.ListN.{length, take, drop, getD}
-use Rattle.lists.specs.Lists.{some}
 use Rattle.expression.specs.declared.Command.{Command}
 use Rattle.expression.specs.declared.Command.the-variants.{Atom, Rule, Union, Relabel, Connect}
 use Rattle.tables.specs.Triples.{relabelTriple, connectTriple}
-use Rattle.tables.specs.Definitions.{Pair, ownTriple, mapPair}
+use Rattle.tables.specs.Definitions.{Pair}
 
 -- the pair that a row's words hold: Q, how many subsets, the subsets; what stands behind them is not looked at
 unfoldable pub pairOf : List ℕ → Pair
@@ -31,15 +28,3 @@ mapTriple K (Rule g) q r = r
 mapTriple K Union q r = r
 mapTriple K (Relabel i j) q r = relabelTriple K i j r
 mapTriple K (Connect k i j) q r = connectTriple K k i j q r
-
--- and of a pair
-unfoldable pub mapPairBy : ℕ → Command → Pair → Pair
-mapPairBy K c x = mapPair (mapTriple K c (ownTriple x) (ownTriple x)) (mapTriple K c (ownTriple x)) x
-
--- whether the command changes the triple r
-unfoldable pub changesTriple : ℕ → Command → ℕ → ℕ → Bool
-changesTriple K c q r = not (eqb (mapTriple K c q r) r)
-
--- or some triple of a pair
-unfoldable pub changesPair : ℕ → Command → Pair → Bool
-changesPair K c x = some (changesTriple K c (ownTriple x)) x

@@ -1,16 +1,15 @@
-// Candidate rows: what a command makes of one row or of two, in a lent row of words.
+// What a command makes of a triple, and of two rows in a lent row of words.
 ghost use mathlib.Core.Path.{_≡_};
 ghost use mathlib.Core.List.{_∷_};
 ghost use Prim.Native.Nat.{_+_, _≤_, _<_};
-ghost use lib.ListN.{length, getD};
-ghost use Rattle.lists.specs.Lists.{some};
+ghost use lib.ListN.{length};
 ghost use Rattle.labels.specs.Labels.{labelCount};
 ghost use Rattle.labels.specs.Sets.{has, without, replace};
 ghost use Rattle.expression.specs.Commands.{Suits};
 ghost use Rattle.tables.specs.Triples.{relabelTriple, settles};
 ghost use Rattle.tables.specs.Definitions.{subsets, unitePairs};
 ghost use Rattle.runs.specs.Runs.{Grown};
-ghost use Rattle.candidates.specs.Candidates.{pairOf, Readable, Made, mapTriple, mapPairBy, changesTriple, changesPair};
+ghost use Rattle.candidates.specs.Candidates.{pairOf, Readable, Made, mapTriple};
 use expression::Command;
 use expression::Kind;
 
@@ -122,65 +121,4 @@ pub fn unite_row(row: &mut [u32], a: &[u32], b: &[u32]) -> usize
     row[0] = qa | qb;
     row[1] = m as u32;
     m
-}
-
-// The subsets that the command makes of src, where q is the interpretation's own triple. There are no more than before, so each finds room.
-fn map_subsets(run: &mut [u32], src: &[u32], c: Command, q: u32) -> usize
-    requires { ⌜ Suits labelCount c ⌝ }
-    requires { ⌜ length (now src) ≤ length (now run) ⌝ }
-    ensures { λ r. ⌜ (r ≤ length (now (run .entry))) × Grown (subsets (mapPairBy labelCount c (q ∷ now (src .entry)))) r (now (run .entry)) (now (run .exit)) ⌝ }
-{
-    let mut m = 0;
-    let mut i = 0;
-    while i < src.len() {
-        let x = map_triple(c, q, src[i]);
-        m = runs::insert(run, m, x);
-        i += 1;
-    }
-    m
-}
-
-// The row that the command makes of the row src. The answer is how many subsets it has. What stands behind them is left.
-pub fn map_row(row: &mut [u32], src: &[u32], c: Command) -> usize
-    requires { ⌜ Suits labelCount c ⌝ }
-    requires { ⌜ Readable (now src) ⌝ }
-    requires { ⌜ (length (now src) ≤ length (now row)) × (length (now row) ≤ 4096) ⌝ }
-    ensures { λ r. ⌜ (r ≡ getD (now (row .exit)) 1 0) × (2 + r ≤ length (now (row .exit))) × (pairOf (now (row .exit)) ≡ mapPairBy labelCount c (pairOf (now (src .entry)))) ⌝ }
-{
-    let q = src[0];
-    let n = src[1] as usize;
-    let m = map_subsets(&mut row[2..], &src[2..2 + n], c, q);
-    row[0] = map_triple(c, q, q);
-    row[1] = m as u32;
-    m
-}
-
-// Whether the command changes some triple of the list, where q is the interpretation's own.
-fn changes_some(triples: &[u32], c: Command, q: u32) -> bool
-    requires { ⌜ Suits labelCount c ⌝ }
-    ensures { λ r. ⌜ r ≡ some (changesTriple labelCount c q) (now (triples .entry)) ⌝ }
-{
-    let mut i = 0;
-    while i < triples.len() {
-        let x = triples[i];
-        if map_triple(c, q, x) != x {
-            return true;
-        }
-        i += 1;
-    }
-    false
-}
-
-// Whether the command changes some triple of the row. A row that it leaves need not be made anew.
-pub fn changes(src: &[u32], c: Command) -> bool
-    requires { ⌜ Suits labelCount c ⌝ }
-    requires { ⌜ Readable (now src) ⌝ }
-    ensures { λ r. ⌜ r ≡ changesPair labelCount c (pairOf (now (src .entry))) ⌝ }
-{
-    let q = src[0];
-    if map_triple(c, q, q) != q {
-        return true;
-    }
-    let n = src[1] as usize;
-    changes_some(&src[2..2 + n], c, q)
 }

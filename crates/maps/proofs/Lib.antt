@@ -1,4 +1,4 @@
 pub mod Mapping
-pub mod Changes
 pub mod Algebras
-pub mod Unchanged
+pub mod Merging
+pub mod Composing

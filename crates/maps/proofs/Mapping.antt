@@ -16,7 +16,7 @@ use Rattle.entries.specs.Carries.{Keeps, valuesIn, Beside, Entry, entryAlgebra}
 use Rattle.entries.proofs.Keeping.{no-value}
 use Rattle.making.specs.Making.{Making, tableOfAll, entriesAt}
 use Rattle.making.proofs.Held.{entries-long, entry-at, entries-from}
-use Rattle.maps.specs.Maps.{mapped, mappedAt}
+use Rattle.maps.specs.Maps.{batched, batchedAt}
 
 -- the value of a row is one that words keep
 pub keeps-value : (carry : Carry) (n j : ℕ) (old : List ℕ) → Keeps carry (getD (valuesIn carry n old) j 0)
@@ -24,21 +24,21 @@ keeps-value Nothing n j old = sym (no-value Nothing n j old refl)
 keeps-value First n j old = tt
 
 -- the n entries of the area at word a
-module _ (carry : Carry) (w p a n : ℕ) (old wsₛ : List ℕ) (within : a + p * w ≤ length wsₛ) (t : Rows w p n (part a (p * w) wsₛ)) (beside : Beside carry n old) (c : Command) where
+module _ (carry : Carry) (w p a n : ℕ) (old wsₛ : List ℕ) (within : a + p * w ≤ length wsₛ) (t : Rows w p n (part a (p * w) wsₛ)) (beside : Beside carry n old) (cs : List Command) where
   abbrev xs : List Entry
   xs = entriesAt carry w p a n old wsₛ
 
   pub next-is : (j : ℕ) → j < n → (v : ℕ) → v ≡ getD (valuesIn carry n old) j 0 → (ws : List ℕ) → part (a + j * w) w ws ≡ part (a + j * w) w wsₛ
-      → map (mapped c) (drop j xs) ≡ mappedAt w (a + j * w) v c ws ∷ map (mapped c) (drop (j + 1) xs)
+      → map (batched cs) (drop j xs) ≡ batchedAt w (a + j * w) v cs ws ∷ map (batched cs) (drop (j + 1) xs)
   next-is j l v ev ws e =
-      ap (map (mapped c)) (entries-from carry w p a n old wsₛ within t beside j l)
-      ∙ ap (λ (y : Entry). mapped c y ∷ map (mapped c) (drop (j + 1) xs)) (entry-at carry w p a n old wsₛ within t beside j l v ev ws e)
+      ap (map (batched cs)) (entries-from carry w p a n old wsₛ within t beside j l)
+      ∙ ap (λ (y : Entry). batched cs y ∷ map (batched cs) (drop (j + 1) xs)) (entry-at carry w p a n old wsₛ within t beside j l v ev ws e)
 
   -- their table has no more than p rows
-  pub few-mapped : length (tableOfAll carry (map (mapped c) xs)) ≤ p
+  pub few-mapped : length (tableOfAll carry (map (batched cs) xs)) ≤ p
   unfolding tableOfAll
   few-mapped =
-      omega (arith, length-canon-map (entryAlgebra labelCount carry .order) (entryAlgebra labelCount carry .merge) (mapped c) xs, entries-long carry w p a n old wsₛ within t beside, t .room)
+      omega (arith, length-canon-map (entryAlgebra labelCount carry .order) (entryAlgebra labelCount carry .merge) (batched cs) xs, entries-long carry w p a n old wsₛ within t beside, t .room)
 
 -- a table whose candidates come to no more than p rows is not over
 pub not-over : {carry : Carry} {w p to : ℕ} {cands rest : List Entry} {r : ℕ} {ws₀ ws index vals : List ℕ} → Making carry w p to cands rest r ws₀ ws index vals

@@ -1,16 +1,28 @@
--- What a relabel or a connect makes of entries (01: move, 31; link, 41 to 43). Assumes nothing.
-use mathlib.Core.List.{List}
-use Prim.Native.Nat.{ℕ}
+-- What relabels, connects and unions with a rule make of entries (01: move, 31; link, 41 to 43; join, 21). Assumes nothing.
+use mathlib.Core.Path.{_≡_}
+use mathlib.Core.List.{List, map}
+use Prim.Native.Nat.{ℕ, _^_, _<_}
 use Rattle.labels.specs.Labels.{labelCount}
 use Rattle.expression.specs.declared.Command.{Command}
-use Rattle.candidates.specs.Candidates.{mapPairBy}
+use Rattle.batches.specs.Batches.{batchPair}
+use Rattle.entries.specs.declared.Carry.{Carry}
+use Rattle.entries.specs.declared.Carry.the-variants.{Nothing, First}
 use Rattle.entries.specs.Carries.{Entry}
-use Rattle.making.specs.Making.{entryAt}
+use Rattle.making.specs.Making.{tableOfAll, entryAt}
 
 -- the entry with its pair mapped; its value stays
-abbrev pub mapped : Command → Entry → Entry
-mapped c x = record { item = mapPairBy labelCount c (x .item); value = x .value }
+abbrev pub batched : List Command → Entry → Entry
+batched cs x = record { item = batchPair labelCount cs (x .item); value = x .value }
 
 -- the entry of the row at word ra, with a value, mapped
-abbrev pub mappedAt : ℕ → ℕ → ℕ → Command → List ℕ → Entry
-mappedAt w ra v c ws = mapped c (entryAt w ra v ws)
+abbrev pub batchedAt : ℕ → ℕ → ℕ → List Command → List ℕ → Entry
+batchedAt w ra v cs ws = batched cs (entryAt w ra v ws)
+
+-- the table of the entries mapped
+abbrev pub batchedTable : Carry → List Command → List Entry → List Entry
+batchedTable carry cs t = tableOfAll carry (map (batched cs) t)
+
+-- a value as a word holds it
+abbrev pub Small : Carry → Entry → Type 0
+Small Nothing x = x .value ≡ 0
+Small First x = x .value < 2 ^ 64

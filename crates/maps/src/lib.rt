@@ -1,21 +1,18 @@
-// A relabel or a connect on a table.
+// Relabels, connects and unions with a rule on a table, several at once.
 use entries::Carry;
-use expression::Command;
 ghost use mathlib.Core.Path.{_≡_};
 ghost use mathlib.Core.List.{[], _∷_, map};
 ghost use Prim.Native.Nat.{_+_, _*_, _≤_};
 ghost use lib.ListN.{length};
-ghost use Rattle.lists.specs.Lists.{some};
-ghost use Rattle.labels.specs.Labels.{labelCount};
-ghost use Rattle.expression.specs.Commands.{Suits};
-ghost use Rattle.candidates.specs.Candidates.{Readable, changesPair};
+ghost use Rattle.candidates.specs.Candidates.{Readable};
 ghost use Rattle.rows.specs.Parts.{part, zeros};
-ghost use Rattle.rows.specs.Rows.{Rows, rowsIn};
+ghost use Rattle.rows.specs.Rows.{Rows};
+ghost use Rattle.batches.specs.Batches.{commandsOf};
 ghost use Rattle.entries.specs.Carries.{Keeps, Beside, Kept};
 ghost use Rattle.making.specs.Making.{Next, Puts, Finished, entriesAt};
-ghost use Rattle.maps.specs.Maps.{mapped, mappedAt};
+ghost use Rattle.maps.specs.Maps.{batched, batchedAt};
 
-// What the command makes of the pair at word ra, with the value v, put into the table that is being made at word `to`. It has no more subsets than
+// What the commands make of the pair at word ra, with the value v, put into the table that is being made at word `to`. It has no more subsets than
 // before, so it fits. The answer is the count then; p + 1 where there are more than p rows.
 pub fn map_entry(
     ws: &mut [u32],
@@ -29,15 +26,15 @@ pub fn map_entry(
     to: usize,
     m: usize,
     v: u64,
-    c: Command,
+    ops: &[u32],
 ) -> usize
     requires { ⌜ (2 ≤ w) × (w ≤ 4096) × (p ≤ 1024) × (length (now row) ≡ w) ⌝ }
     requires { ⌜ (ra + w ≤ length (now ws)) × (to + p * w ≤ length (now ws)) ⌝ }
-    requires { ⌜ Readable (part ra w (now ws)) × Keeps carry v × Suits labelCount c ⌝ }
-    requires { ⌜ Next carry w p to m (mappedAt w ra v c (now ws) ∷ []) (now ws) (now index) (now vals) ⌝ }
-    ensures { λ r. ⌜ Puts carry w p to m (mappedAt w ra v c (now (ws .entry)) ∷ []) r (now (ws .entry)) (now (index .entry)) (now (vals .entry)) (now (ws .exit)) (now (index .exit)) (now (vals .exit)) ⌝ }
+    requires { ⌜ Readable (part ra w (now ws)) × Keeps carry v ⌝ }
+    requires { ⌜ Next carry w p to m (batchedAt w ra v (commandsOf (now ops)) (now ws) ∷ []) (now ws) (now index) (now vals) ⌝ }
+    ensures { λ r. ⌜ Puts carry w p to m (batchedAt w ra v (commandsOf (now (ops .entry))) (now (ws .entry)) ∷ []) r (now (ws .entry)) (now (index .entry)) (now (vals .entry)) (now (ws .exit)) (now (index .exit)) (now (vals .exit)) ⌝ }
 {
-    candidates::map_row(row, &ws[ra..ra + w], c);
+    batches::batch_row(row, &ws[ra..ra + w], ops);
     making::put_entry(ws, row, index, vals, carry, w, p, to, m, v)
 }
 
@@ -54,26 +51,26 @@ pub fn map_all(
     a: usize,
     n: usize,
     to: usize,
-    c: Command,
+    ops: &[u32],
 ) -> usize
     requires { ⌜ (2 ≤ w) × (w ≤ 4096) × (p ≤ 1024) × (length (now row) ≡ w) ⌝ }
     requires { ⌜ (a + p * w ≤ to) × (to + p * w ≤ length (now ws)) ⌝ }
-    requires { ⌜ Rows w p n (part a (p * w) (now ws)) × Beside carry n (now old) × Suits labelCount c ⌝ }
-    requires { ⌜ Next carry w p to 0 (map (mapped c) (entriesAt carry w p a n (now old) (now ws))) (now ws) (now index) (now vals) ⌝ }
-    ensures { λ r. ⌜ Puts carry w p to 0 (map (mapped c) (entriesAt carry w p a n (now (old .entry)) (now (ws .entry)))) r (now (ws .entry)) (now (index .entry)) (now (vals .entry)) (now (ws .exit)) (now (index .exit)) (now (vals .exit)) ⌝ }
+    requires { ⌜ Rows w p n (part a (p * w) (now ws)) × Beside carry n (now old) ⌝ }
+    requires { ⌜ Next carry w p to 0 (map (batched (commandsOf (now ops))) (entriesAt carry w p a n (now old) (now ws))) (now ws) (now index) (now vals) ⌝ }
+    ensures { λ r. ⌜ Puts carry w p to 0 (map (batched (commandsOf (now (ops .entry)))) (entriesAt carry w p a n (now (old .entry)) (now (ws .entry)))) r (now (ws .entry)) (now (index .entry)) (now (vals .entry)) (now (ws .exit)) (now (index .exit)) (now (vals .exit)) ⌝ }
 {
     let mut r = 0;
     let mut j = 0;
     while j < n {
         let ra = a + j * w;
         let v = entries::value_at(old, carry, n, j);
-        r = map_entry(ws, row, index, vals, carry, w, p, ra, to, r, v, c);
+        r = map_entry(ws, row, index, vals, carry, w, p, ra, to, r, v, ops);
         j += 1;
     }
     r
 }
 
-// The table at word a, of n rows with the values `old`, becomes what the command makes of it; made in the words from `to` on. It has no more rows than
+// The table at word a, of n rows with the values `old`, becomes what the commands make of it; made in the words from `to` on. It has no more rows than
 // before. The answer is how many, and `vals` holds their values then.
 pub fn map_table(
     ws: &mut [u32],
@@ -87,31 +84,15 @@ pub fn map_table(
     a: usize,
     n: usize,
     to: usize,
-    c: Command,
+    ops: &[u32],
 ) -> usize
     requires { ⌜ (2 ≤ w) × (w ≤ 4096) × (p ≤ 1024) × (length (now row) ≡ w) ⌝ }
     requires { ⌜ (a + p * w ≤ to) × (to + p * w ≤ length (now ws)) ⌝ }
-    requires { ⌜ Rows w p n (part a (p * w) (now ws)) × Beside carry n (now old) × Suits labelCount c ⌝ }
+    requires { ⌜ Rows w p n (part a (p * w) (now ws)) × Beside carry n (now old) ⌝ }
     requires { ⌜ (part to (p * w) (now ws) ≡ zeros (p * w)) × (p ≤ length (now index)) × Kept carry p 0 (now vals) ⌝ }
-    ensures { λ r. ⌜ (r ≤ p) × Finished carry w p a (map (mapped c) (entriesAt carry w p a n (now (old .entry)) (now (ws .entry)))) r (now (ws .entry)) (now (ws .entry)) (now (ws .exit)) (now (vals .exit)) ⌝ }
+    ensures { λ r. ⌜ (r ≤ p) × Finished carry w p a (map (batched (commandsOf (now (ops .entry)))) (entriesAt carry w p a n (now (old .entry)) (now (ws .entry)))) r (now (ws .entry)) (now (ws .entry)) (now (ws .exit)) (now (vals .exit)) ⌝ }
 {
-    let r = map_all(ws, row, index, vals, old, carry, w, p, a, n, to, c);
+    let r = map_all(ws, row, index, vals, old, carry, w, p, a, n, to, ops);
     making::settle(ws, row, index, w, p, r, n, a, to);
     r
-}
-
-// Whether the command changes some row of the table at word a, of n rows. A table that it leaves need not be made anew.
-pub fn changes_table(ws: &[u32], w: usize, p: usize, a: usize, n: usize, c: Command) -> bool
-    requires { ⌜ (a + p * w ≤ length (now ws)) × Rows w p n (part a (p * w) (now ws)) × Suits labelCount c ⌝ }
-    ensures { λ r. ⌜ r ≡ some (changesPair labelCount c) (rowsIn w n (part a (p * w) (now (ws .entry)))) ⌝ }
-{
-    let mut i = 0;
-    while i < n {
-        let ra = a + i * w;
-        if candidates::changes(&ws[ra..ra + w], c) {
-            return true;
-        }
-        i += 1;
-    }
-    false
 }

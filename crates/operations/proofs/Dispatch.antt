@@ -13,8 +13,8 @@ use Rattle.expression.specs.Limits.{atomLimit}
 use Rattle.semantics.specs.Expressions.{act, uniteNewest, changeNewest}
 use Rattle.semantics.specs.AnswerSets.{Assumptions}
 use Rattle.tables.specs.Algebras.{leaf, tables}
-use Rattle.tables.specs.Definitions.{pairs, flat}
-use Rattle.candidates.specs.Candidates.{mapTriple, mapPairBy}
+use Rattle.tables.specs.Definitions.{pairs, flat, mapPair}
+use Rattle.batches.specs.Batches.{Joins, stepTriple, step, steps, cleaned, batchPair}
 use Rattle.values.specs.Values.{valued}
 use Rattle.entries.specs.declared.Carry.{Carry}
 use Rattle.entries.specs.Carries.{Entry, entryAlgebra}
@@ -49,12 +49,12 @@ union-is Plain carry o x y = refl
 union-is Pairs carry o x y = refl
 
 relabel-is : (kind : Tables) (carry : Carry) (o : Assumptions) (i j : ℕ) (x : List Entry) → mappedTable carry (Relabel i j) x ≡ tables (tableAlgebra kind carry) o .relabelOp i j x
-unfolding tables tableOfAll entryAlgebra tableAlgebra algebraOf valued pairs flat mapPairBy mapTriple
+unfolding tables tableOfAll entryAlgebra tableAlgebra algebraOf valued pairs flat batchPair cleaned steps step stepTriple mapPair
 relabel-is Plain carry o i j x = refl
 relabel-is Pairs carry o i j x = refl
 
 connect-is : (kind : Tables) (carry : Carry) (o : Assumptions) (k : Kind) (i j : ℕ) (x : List Entry) → mappedTable carry (Connect k i j) x ≡ tables (tableAlgebra kind carry) o .connectOp k i j x
-unfolding tables tableOfAll entryAlgebra tableAlgebra algebraOf valued pairs flat mapPairBy mapTriple
+unfolding tables tableOfAll entryAlgebra tableAlgebra algebraOf valued pairs flat batchPair cleaned steps step stepTriple mapPair
 connect-is Plain carry o k i j x = refl
 connect-is Pairs carry o k i j x = refl
 
@@ -102,3 +102,11 @@ module _ {c : Command} (d t a : ℕ) where
 
   pub connect-meets : {k : Kind} {i j : ℕ} → c ≡ Connect k i j → Meets c d t a → 1 ≤ t
   connect-meets e m = rw e at m
+
+-- a relabel and a connect may be in a batch
+module _ {c : Command} where
+  pub relabel-joins : {i j : ℕ} → c ≡ Relabel i j → Joins c
+  relabel-joins e = rw e tt
+
+  pub connect-joins : {k : Kind} {i j : ℕ} → c ≡ Connect k i j → Joins c
+  connect-joins e = rw e tt

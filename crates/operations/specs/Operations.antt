@@ -1,6 +1,6 @@
 -- One command on the tables of a workspace. Assumes nothing.
 use mathlib.Core.Path.{_≡_}
-use mathlib.Core.List.{List, _∷_, map}
+use mathlib.Core.List.{List, [], _∷_}
 use Prim.Native.Nat.{ℕ, _+_, _≤_, _<_}
 use lib.ListN.{length, drop}
 use Rattle.lists.specs.Lists.{products}
@@ -12,7 +12,7 @@ use Rattle.decisions.specs.Decisions.{newest}
 use Rattle.entries.specs.declared.Carry.{Carry}
 use Rattle.entries.specs.Carries.{Entry, entryAlgebra, Kept}
 use Rattle.making.specs.Making.{tableOfAll}
-use Rattle.maps.specs.Maps.{mapped}
+use Rattle.maps.specs.Maps.{batchedTable}
 use Rattle.workspace.specs.Workspace.{Holds, Acted}
 
 -- a workspace that holds t tables, the newest of n entries and the one below it of m
@@ -37,7 +37,7 @@ unitedTable carry a b = tableOfAll carry (products (entryAlgebra labelCount carr
 
 -- what a relabel or a connect makes of a table
 abbrev pub mappedTable : Carry → Command → List Entry → List Entry
-mappedTable carry c t = tableOfAll carry (map (mapped c) t)
+mappedTable carry c t = batchedTable carry (c ∷ []) t
 
 -- a table more
 abbrev pub pushed : List Entry → List (List Entry) → List (List Entry)

@@ -12,9 +12,11 @@ ghost use Rattle.expression.specs.Limits.{atomLimit, depthLimit};
 ghost use Rattle.semantics.specs.Expressions.{act, uniteNewest, changeNewest};
 ghost use Rattle.semantics.specs.AnswerSets.{byMasks};
 ghost use Rattle.tables.specs.Algebras.{leaf, tables};
+ghost use Rattle.batches.specs.Batches.{Joins, commandsOf};
 ghost use Rattle.entries.specs.Carries.{Beside, Kept};
 ghost use Rattle.making.specs.Making.{tableOfAll};
 ghost use Rattle.leaves.specs.Leaves.{tableAlgebra, Wide};
+ghost use Rattle.maps.specs.Maps.{batchedTable};
 ghost use Rattle.workspace.specs.Workspace.{valuesFrom};
 ghost use Rattle.operations.specs.Operations.{Ready, Acts, Meets, unitedTable, mappedTable, pushed};
 
@@ -77,8 +79,50 @@ fn unite_newest(
     r
 }
 
-// The newest of t tables in d areas, of n entries, becomes what the command makes of it. Most commands leave most tables as they are.
-fn map_newest(
+// The newest of t tables in d areas, of n entries, becomes what the commands make of it.
+pub fn map_newest(
+    ws: &mut [u32],
+    row: &mut [u32],
+    index: &mut [u32],
+    made: &mut [u64],
+    vals: &mut [u64],
+    carry: Carry,
+    d: usize,
+    w: usize,
+    p: usize,
+    t: usize,
+    n: usize,
+    ops: &[u32],
+) -> usize
+    requires { ⌜ (2 ≤ w) × (w ≤ 4096) × (p ≤ 1024) × (d ≤ depthLimit + 1) × (length (now row) ≡ w) × (p ≤ length (now index)) ⌝ }
+    requires { ⌜ Kept carry p 0 (now made) × Beside carry ((d - 1) * p) (now vals) ⌝ }
+    requires { ⌜ (1 ≤ t) × ((m : ℕ) × Ready carry d w p t n m (now ws) (now vals)) ⌝ }
+    ensures { λ r. ⌜ (r ≤ p) × ((m : ℕ) → Acts carry d w p t n m (changeNewest (batchedTable carry (commandsOf (now (ops .entry))))) r (now (ws .entry)) (now (vals .entry)) (now (ws .exit)) (now (vals .exit)) (now (made .exit))) ⌝ }
+{
+    let area = p * w;
+    let i = t - 1;
+    let a = i * area;
+    let o = values_from(carry, p, i);
+    let r = maps::map_table(
+        ws,
+        row,
+        index,
+        made,
+        &vals[o..],
+        carry,
+        w,
+        p,
+        a,
+        n,
+        (d - 1) * area,
+        ops,
+    );
+    workspace::move_values(vals, made, carry, p, i, r);
+    r
+}
+
+// The same for one relabel or connect.
+fn map_by(
     ws: &mut [u32],
     row: &mut [u32],
     index: &mut [u32],
@@ -93,33 +137,13 @@ fn map_newest(
     c: Command,
 ) -> usize
     requires { ⌜ (2 ≤ w) × (w ≤ 4096) × (p ≤ 1024) × (d ≤ depthLimit + 1) × (length (now row) ≡ w) × (p ≤ length (now index)) ⌝ }
-    requires { ⌜ Kept carry p 0 (now made) × Beside carry ((d - 1) * p) (now vals) × Suits labelCount c ⌝ }
+    requires { ⌜ Kept carry p 0 (now made) × Beside carry ((d - 1) * p) (now vals) × Suits labelCount c × Joins c ⌝ }
     requires { ⌜ (1 ≤ t) × ((m : ℕ) × Ready carry d w p t n m (now ws) (now vals)) ⌝ }
     ensures { λ r. ⌜ ((m : ℕ) → Acts carry d w p t n m (changeNewest (mappedTable carry c)) r (now (ws .entry)) (now (vals .entry)) (now (ws .exit)) (now (vals .exit)) (now (made .exit))) ⌝ }
 {
-    let area = p * w;
-    let i = t - 1;
-    let a = i * area;
-    if !maps::changes_table(&ws[..], w, p, a, n, c) {
-        return n;
-    }
-    let o = values_from(carry, p, i);
-    let r = maps::map_table(
-        ws,
-        row,
-        index,
-        made,
-        &vals[o..],
-        carry,
-        w,
-        p,
-        a,
-        n,
-        (d - 1) * area,
-        c,
-    );
-    workspace::move_values(vals, made, carry, p, i, r);
-    r
+    let op = batches::word_of(c);
+    let ops = [op; 1];
+    map_newest(ws, row, index, made, vals, carry, d, w, p, t, n, &ops)
 }
 
 // The table of the atom a, of label g, comes on t tables in d areas.
@@ -252,20 +276,7 @@ pub fn act(
         ),
         Command::Rule(g) => push_rule(ws, row, index, made, vals, kind, carry, d, w, p, t, g),
         Command::Union => unite_newest(ws, row, index, made, vals, carry, d, w, p, t, n, m),
-        Command::Relabel(_, _) => map_newest(ws, row, index, made, vals, carry, d, w, p, t, n, c),
-        Command::Connect(_, _, _) => map_newest(
-            ws,
-            row,
-            index,
-            made,
-            vals,
-            carry,
-            d,
-            w,
-            p,
-            t,
-            n,
-            c,
-        ),
+        Command::Relabel(_, _) => map_by(ws, row, index, made, vals, carry, d, w, p, t, n, c),
+        Command::Connect(_, _, _) => map_by(ws, row, index, made, vals, carry, d, w, p, t, n, c),
     }
 }

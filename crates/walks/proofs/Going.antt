@@ -43,29 +43,35 @@ module _ (kind : Tables) (carry : Carry) (o : Assumptions) (w p stop : ℕ) (s :
   abbrev d : ℕ
   d = depthLimit + 1
 
-  -- at an offset, after counts n, with the tables that stand
-  pub record Going (z : Counts) (beyond : List ℕ) (at : ℕ) (n : Counts) (ws vals counts : List ℕ) : Type 0 where
+  -- at an offset, after counts n, on a stack
+  pub record Leading (z : Counts) (at : ℕ) (n : Counts) (stack : List (List Entry)) : Type 0 where
     pub rest : List Placed
     pub remains : Remains labelCount s at n rest z
-    pub stack : List (List Entry)
-    pub stands : Stands carry d w p stack beyond ws vals counts
     pub deep : length stack ≡ n .depth
     pub begun : 0 < at → 1 ≤ n .depth
     pub leads : walk B f (n .atoms) (before stop rest) stack ≡ walkTo kind carry o w p stop s
 
+  -- with the tables that stand
+  pub record Going (z : Counts) (beyond : List ℕ) (at : ℕ) (n : Counts) (ws vals counts : List ℕ) : Type 0 where
+    pub stack : List (List Entry)
+    pub leading : Leading z at n stack
+    pub stands : Stands carry d w p stack beyond ws vals counts
+
   pub going-start : (z : Counts) → Joined labelCount s z → (beyond ws vals counts : List ℕ) → Stands carry d w p [] beyond ws vals counts → (n : Counts) → n ≡ noCounts → Going z beyond 0 n ws vals counts
   unfolding walkTo noCounts commandsIn
   going-start z j beyond ws vals counts h n e = record {
-    rest = j .placed;
-    remains = rw e (remains-start labelCount s z j);
     stack = [];
+    leading = record {
+      rest = j .placed;
+      remains = rw e (remains-start labelCount s z j);
+      deep = rw e;
+      begun = λ l. absurd (omega arith);
+      leads = rw (e, j .read);
+    };
     stands = h;
-    deep = rw e;
-    begun = λ l. absurd (omega arith);
-    leads = rw (e, j .read);
   }
 
-  module _ {z : Counts} {beyond : List ℕ} {at : ℕ} {n : Counts} {ws vals counts : List ℕ} (g : Going z beyond at n ws vals counts) (ends : stop ≤ length s) where
+  module _ {z : Counts} {at : ℕ} {n : Counts} {stack : List (List Entry)} (g : Leading z at n stack) (ends : stop ≤ length s) where
     module _ (l : at < stop) where
       abbrev N : Next labelCount s at n (g .rest) z
       N = remains-next labelCount s at n (g .rest) z (omega arith) (g .remains)
@@ -88,35 +94,37 @@ module _ (kind : Tables) (carry : Carry) (o : Assumptions) (w p stop : ℕ) (s :
         meets = passes-meets n c (subst (λ x. countFault n x ≡ 0) is-command (N .passes))
 
         abbrev pub after : List (List Entry)
-        after = act B (n .atoms) c (g .stack)
+        after = act B (n .atoms) c stack
 
         -- the walk from here
-        from-here : walk B f (n .atoms) (record { place = at; command = c } ∷ before stop (N .rest)) (g .stack) ≡ walkTo kind carry o w p stop s
+        from-here : walk B f (n .atoms) (record { place = at; command = c } ∷ before stop (N .rest)) stack ≡ walkTo kind carry o w p stop s
         from-here =
-            sym (ap (λ cs. walk B f (n .atoms) cs (g .stack)) (ap (before stop) (N .listed ∙ ap (λ x. record { place = at; command = x } ∷ N .rest) is-command) ∙ before-more stop at c (N .rest) l)) ∙ g .leads
+            sym (ap (λ cs. walk B f (n .atoms) cs stack) (ap (before stop) (N .listed ∙ ap (λ x. record { place = at; command = x } ∷ N .rest) is-command) ∙ before-more stop at c (N .rest) l)) ∙ g .leads
 
-        module _ {r : ℕ} {ws' vals' counts' : List ℕ} (a : Advanced carry d w p after beyond r ws counts ws' vals' counts') where
+        -- a command whose table exceeds no limit
+        pub lead-on : f (newest after) ≡ 0 → (n' : Counts) → n' ≡ capped (counted n c) → Leading z next n' after
+        lead-on none n' e =
+            let same : n' ≡ counted n c = e ∙ capped-limited (counted n c) (counted-limited n c (subst (λ x. countFault n x ≡ 0) is-command (N .passes)) (g .remains .1)) in
+            let atoms : counted n c .atoms ≡ n .atoms + newAtoms c = unfold counted in refl in
+            let deeper : counted n c .depth ≡ depthAfter (n .depth) c = unfold counted in refl in
+            record {
+              rest = N .rest;
+              remains = rw (same, sym is-command, sym is-next) (N .after);
+              deep = rw (same, deeper) (act-deep B (n .atoms) d c stack (rw (g .deep) meets) ∙ ap (λ k. depthAfter k c) (g .deep));
+              begun = λ l. rw (same, deeper) (some-after d (n .depth) (n .atoms) c meets);
+              leads = rw (same, atoms) (sym (walk-on B f (n .atoms) at c (before stop (N .rest)) stack none) ∙ from-here);
+            }
+
+        module _ {beyond : List ℕ} {r : ℕ} {ws counts ws' vals' counts' : List ℕ} (a : Advanced carry d w p after beyond r ws counts ws' vals' counts') where
           pub going-on : r ≤ p → (n' : Counts) → n' ≡ capped (counted n c) → Going z beyond next n' ws' vals' counts'
-          going-on few n' e =
-              let same : n' ≡ counted n c = e ∙ capped-limited (counted n c) (counted-limited n c (subst (λ x. countFault n x ≡ 0) is-command (N .passes)) (g .remains .1)) in
-              let atoms : counted n c .atoms ≡ n .atoms + newAtoms c = unfold counted in refl in
-              let deeper : counted n c .depth ≡ depthAfter (n .depth) c = unfold counted in refl in
-              record {
-                rest = N .rest;
-                remains = rw (same, sym is-command, sym is-next) (N .after);
-                stack = after;
-                stands = a .stands few;
-                deep = rw (same, deeper) (act-deep B (n .atoms) d c (g .stack) (rw (g .deep) meets) ∙ ap (λ k. depthAfter k c) (g .deep));
-                begun = λ l. rw (same, deeper) (some-after d (n .depth) (n .atoms) c meets);
-                leads = rw (same, atoms) (sym (walk-on B f (n .atoms) at c (before stop (N .rest)) (g .stack) (sym (a .fault) ∙ fault-none p r few)) ∙ from-here);
-              }
+          going-on few n' e = record { stack = after; leading = lead-on (sym (a .fault) ∙ fault-none p r few) n' e; stands = a .stands few }
 
           pub going-stops : p < r → (k : ℕ) → k ≡ faultOf p r → walkTo kind carry o w p stop s ≡ stopped k at
-          going-stops many k e = sym from-here ∙ walk-stops B f (n .atoms) at c (before stop (N .rest)) (g .stack) k (rw e (fault-some p r many)) (sym (a .fault) ∙ sym e)
+          going-stops many k e = sym from-here ∙ walk-stops B f (n .atoms) at c (before stop (N .rest)) stack k (rw e (fault-some p r many)) (sym (a .fault) ∙ sym e)
 
           -- and the tables stand as before
-          pub standing-still : p < r → Counted d w p (n .depth) (map pairsOf (g .stack)) beyond counts' ws'
-          standing-still many = rw (a .same many .0, a .same many .1) (holds-counted depthLimit (g .stands .holds) (g .deep) (g .stands .tallies))
+          pub standing-still : {vals : List ℕ} → Stands carry d w p stack beyond ws vals counts → p < r → Counted d w p (n .depth) (map pairsOf stack) beyond counts' ws'
+          standing-still h many = rw (a .same many .0, a .same many .1) (holds-counted depthLimit (h .holds) (g .deep) (h .tallies))
 
     -- the end: no command starts before it
     none-before : stop ≤ at → before stop (g .rest) ≡ []
@@ -126,8 +134,8 @@ module _ (kind : Tables) (carry : Carry) (o : Assumptions) (w p stop : ℕ) (s :
         step true e = let N = remains-next labelCount s at n (g .rest) z (ltb-true at (length s) e) (g .remains) in ap (before stop) (N .listed) ∙ before-none stop at (N .command) (N .rest) l
         step false e = ap (before stop) (remains-end labelCount s at n (g .rest) z (ltb-false at (length s) e) (g .remains) .0) ∙ before-nil stop
 
-    pub going-ends : stop ≤ at → walkTo kind carry o w p stop s ≡ walked (g .stack)
-    going-ends l = sym (g .leads) ∙ ap (λ cs. walk B f (n .atoms) cs (g .stack)) (none-before l) ∙ walk-nil B f (n .atoms) (g .stack)
+    pub going-ends : stop ≤ at → walkTo kind carry o w p stop s ≡ walked stack
+    going-ends l = sym (g .leads) ∙ ap (λ cs. walk B f (n .atoms) cs stack) (none-before l) ∙ walk-nil B f (n .atoms) stack
 
     -- which at the end of the bytes leaves one table
     pub ends-joined : z .depth ≡ 1 → stop ≤ at → stop ≡ length s → n .depth ≡ 1

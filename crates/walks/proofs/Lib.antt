@@ -4,3 +4,5 @@ pub mod Whole
 pub mod Advancing
 pub mod Clear
 pub mod Last
+pub mod Keeping
+pub mod Stretching

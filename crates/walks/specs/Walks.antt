@@ -5,9 +5,13 @@ use mathlib.Core.List.{List, [], _∷_}
 use Prim.Native.Nat.{ℕ, _+_, _-_, _≤_, _<_}
 use lib.Dec.{ltb}
 use lib.ListN.{length}
+use Rattle.lists.specs.Lists.{All}
 use Rattle.labels.specs.Labels.{labelCount}
+use Rattle.expression.specs.declared.Command.{Command}
+use Rattle.expression.specs.declared.Counts.{Counts}
 use Rattle.expression.specs.Limits.{depthLimit}
 use Rattle.expression.specs.Reading.{Placed, reading}
+use Rattle.semantics.specs.Expressions.{changeNewest}
 use Rattle.semantics.specs.AnswerSets.{Assumptions}
 use Rattle.tables.specs.Algebras.{tables}
 use Rattle.tables.specs.Definitions.{Pair}
@@ -16,6 +20,9 @@ use Rattle.entries.specs.declared.Carry.{Carry}
 use Rattle.entries.specs.Carries.{Entry, Kept}
 use Rattle.leaves.specs.declared.Tables.{Tables}
 use Rattle.leaves.specs.Leaves.{tableAlgebra}
+use Rattle.maps.specs.Maps.{batchedTable, Small}
+use Rattle.stretches.specs.declared.Stretch.{Stretch}
+use Rattle.stretches.specs.Stretches.{Chain, chainCounts}
 use Rattle.workspace.specs.Workspace.{pairsOf, countsOf, Holds, faultOf}
 use Rattle.stacks.specs.Stacks.{Counted}
 use Rattle.walks.specs.declared.Reached.{Reached}
@@ -32,6 +39,20 @@ pub record Advanced (carry : Carry) (d w p : ℕ) (us : List (List Entry)) (beyo
   pub fault : faultOf p r ≡ pairsFault p (w - 2) (pairsOf (newest us))
   pub stands : r ≤ p → Stands carry d w p us beyond ws' vals' counts'
   pub same : p < r → (ws' ≡ ws) × (counts' ≡ counts)
+
+-- the stack after commands that are done at once on the newest table
+abbrev pub stretched : Carry → List Command → List (List Entry) → List (List Entry)
+stretched carry [] ts = ts
+stretched carry (c ∷ cs) ts = changeNewest (batchedTable carry (c ∷ cs)) ts
+
+-- the commands from an offset on, after counts n, done at once on a stack: how far they go, and what stands then
+pub record Ahead (carry : Carry) (d w p stop at : ℕ) (n : Counts) (s : List ℕ) (ts : List (List Entry)) (beyond : List ℕ) (r : Stretch) (ws' vals' counts' : List ℕ) : Type 0 where
+  pub done : List Command
+  pub chain : Chain labelCount s stop at (r .next) done
+  pub after : r .counts ≡ chainCounts n done
+  pub none : length ts ≡ 0 → done ≡ []
+  pub small : All (Small carry) (newest ts)
+  pub stands : Stands carry d w p (stretched carry done ts) beyond ws' vals' counts'
 
 -- the commands that start before an offset
 unfoldable pub before : ℕ → List Placed → List Placed

@@ -8,7 +8,7 @@ use borrow.Author.Tests.{lt-ltb, le-ltb}
 use Rattle.lists.specs.Lists.{some}
 use Rattle.labels.specs.Labels.{labelCount}
 use Rattle.tables.specs.Triples.{allMet}
-use Rattle.candidates.proofs.Changing.{found, passed}
+use Rattle.answers.proofs.Looking.{found, passed}
 use Rattle.answers.proofs.some_met.Statement.{statement}
 use Rattle.answers.proofs.some_met.Tie as tie
 

@@ -5,28 +5,29 @@ use Prim.Native.Nat.{ℕ, _+_, _-_, _*_, _≤_}
 use lib.ListN.{length, drop, getD}
 use Rattle.candidates.specs.Candidates.{Readable}
 use Rattle.rows.specs.Parts.{part}
+use Rattle.batches.specs.Batches.{commandsOf}
 use Rattle.rows.proofs.Tables.{row-within}
 use Rattle.entries.specs.Carries.{Keeps, Entry, valuesIn}
 use Rattle.making.specs.Making.{Making, entriesAt}
 use Rattle.making.proofs.Held.{readable-row, none-left}
 use Rattle.making.proofs.Stepping.{same-below}
-use Rattle.maps.specs.Maps.{mapped, mappedAt}
+use Rattle.maps.specs.Maps.{batched, batchedAt}
 use Rattle.maps.proofs.Mapping.{keeps-value, next-is}
 use Rattle.maps.proofs.map_all.Statement.{statement}
 use Rattle.maps.proofs.map_all.Tie as tie
 use native.Mathlib.Omega.{arith}
 
 abbrev Inv-loop : tie.InvT-loop
-Inv-loop ws₀ row₀ index₀ vals₀ old carry w p a n to c r₀ j₀ ws row index vals r j =
+Inv-loop ws₀ row₀ index₀ vals₀ old carry w p a n to ops r₀ j₀ ws row index vals r j =
     (j ≤ n) × (length row ≡ w) × (length ws ≡ length ws₀) × (length index ≡ length index₀) × (length vals ≡ length vals₀)
-    × ((cands rest : List Entry) (v₀ : List ℕ) → Making carry w p to cands (map (mapped c) (entriesAt carry w p a n old ws₀) ++ rest) 0 v₀ ws₀ index₀ vals₀
-    → Making carry w p to cands (map (mapped c) (drop j (entriesAt carry w p a n old ws₀)) ++ rest) r v₀ ws index vals)
+    × ((cands rest : List Entry) (v₀ : List ℕ) → Making carry w p to cands (map (batched (commandsOf ops)) (entriesAt carry w p a n old ws₀) ++ rest) 0 v₀ ws₀ index₀ vals₀
+    → Making carry w p to cands (map (batched (commandsOf ops)) (drop j (entriesAt carry w p a n old ws₀)) ++ rest) r v₀ ws index vals)
 
 abbrev μ-loop : tie.MeasureT-loop
-μ-loop ws₀ row₀ index₀ vals₀ old carry w p a n to c r₀ j₀ ws row index vals r j = n - j
+μ-loop ws₀ row₀ index₀ vals₀ old carry w p a n to ops r₀ j₀ ws row index vals r j = n - j
 
 abbrev start : tie.In-loop Inv-loop μ-loop → tie.Start Inv-loop μ-loop
-start c = c .before .before .before .before .before .before .before
+start c = c .before .before .before .before .before .before .before .before
 
 -- the entries that are mapped
 abbrev those : tie.Start Inv-loop μ-loop → List Entry
@@ -59,15 +60,15 @@ module _ (c : tie.In-loop Inv-loop μ-loop) where
 
   -- the next candidate, for a value v
   next : (v : ℕ) → v ≡ getD (valuesIn (s .args .carry) (s .args .n) (s .args .old .now)) j 0
-      → (cands rest : List Entry) (v₀ : List ℕ) → Making (s .args .carry) (s .args .w) (s .args .p) (s .args .to) cands (map (mapped (s .args .c)) (those s) ++ rest) 0 v₀ (s .args .ws .now) (s .args .index .now) (s .args .vals .now)
-      → Making (s .args .carry) (s .args .w) (s .args .p) (s .args .to) cands ((mappedAt (s .args .w) (s .args .a + j * s .args .w) v (s .args .c) (c .before .loop .ws) ∷ map (mapped (s .args .c)) (drop (j + 1) (those s))) ++ rest) (c .before .loop .r) v₀ (c .before .loop .ws) (c .before .loop .index) (c .before .loop .vals)
+      → (cands rest : List Entry) (v₀ : List ℕ) → Making (s .args .carry) (s .args .w) (s .args .p) (s .args .to) cands (map (batched (commandsOf (s .args .ops .now))) (those s) ++ rest) 0 v₀ (s .args .ws .now) (s .args .index .now) (s .args .vals .now)
+      → Making (s .args .carry) (s .args .w) (s .args .p) (s .args .to) cands ((batchedAt (s .args .w) (s .args .a + j * s .args .w) v (commandsOf (s .args .ops .now)) (c .before .loop .ws) ∷ map (batched (commandsOf (s .args .ops .now))) (drop (j + 1) (those s))) ++ rest) (c .before .loop .r) v₀ (c .before .loop .ws) (c .before .loop .index) (c .before .loop .vals)
   next v ev cands rest v₀ h =
       subst (λ (xs : List Entry). Making (s .args .carry) (s .args .w) (s .args .p) (s .args .to) cands (xs ++ rest) (c .before .loop .r) v₀ (c .before .loop .ws) (c .before .loop .index) (c .before .loop .vals))
-      (next-is (s .args .carry) (s .args .w) (s .args .p) (s .args .a) (s .args .n) (s .args .old .now) (s .args .ws .now) (below s) (s .pre .1 .1 .0 .0) (s .pre .1 .1 .0 .1) (s .args .c) j (c .loop-test .taken) v ev (c .before .loop .ws) same)
+      (next-is (s .args .carry) (s .args .w) (s .args .p) (s .args .a) (s .args .n) (s .args .old .now) (s .args .ws .now) (below s) (s .pre .1 .1 .0 .0) (s .pre .1 .1 .0 .1) (commandsOf (s .args .ops .now)) j (c .loop-test .taken) v ev (c .before .loop .ws) same)
       (c .before .loop .inv .5 cands rest v₀ h)
 
 loop-holds : tie.Need-loop-holds Inv-loop μ-loop
-loop-holds c = (omega arith, c .before .before .before .before .before .pre .0 .3, refl, refl, refl, λ cands rest v₀ h. h)
+loop-holds c = (omega arith, c .before .before .before .before .before .before .pre .0 .3, refl, refl, refl, λ cands rest v₀ h. h)
 
 mul-ra : tie.Need-mul-ra Inv-loop μ-loop
 mul-ra c = omega (arith, row-below c, start c .pre .1 .0 .1)
@@ -89,8 +90,8 @@ map-entry-requires c κs =
       (
         (omega (arith, row-below e, s .pre .1 .0 .1, q .2), omega (arith, s .pre .1 .0 .1, q .2)),
         (
-          (readable e, subst (Keeps (s .args .carry)) (sym (v .value-at .ensures)) (keeps-value (s .args .carry) (s .args .n) (e .before .loop .j) (s .args .old .now)), s .pre .1 .1 .0 .2),
-          (N .0, map (mapped (s .args .c)) (drop (e .before .loop .j + 1) (those s)) ++ N .1, N .2, next e (v .value-at .result) (v .value-at .ensures) (N .0) (N .1) (N .2) (N .3)),
+          (readable e, subst (Keeps (s .args .carry)) (sym (v .value-at .ensures)) (keeps-value (s .args .carry) (s .args .n) (e .before .loop .j) (s .args .old .now))),
+          (N .0, map (batched (commandsOf (s .args .ops .now))) (drop (e .before .loop .j + 1) (those s)) ++ N .1, N .2, next e (v .value-at .result) (v .value-at .ensures) (N .0) (N .1) (N .2) (N .3)),
         ),
       ),
     )
@@ -114,14 +115,14 @@ loop-again c =
       u .map-entry .kept .0 ∙ q .2,
       u .map-entry .kept .1 .1 .0 ∙ q .3,
       u .map-entry .kept .1 .1 .1 .0 ∙ q .4,
-      λ cands rest v₀ h. u .map-entry .ensures cands (map (mapped (s .args .c)) (drop (j + 1) (those s)) ++ rest) v₀ (next e (v .value-at .result) (v .value-at .ensures) cands rest v₀ h),
+      λ cands rest v₀ h. u .map-entry .ensures cands (map (batched (commandsOf (s .args .ops .now))) (drop (j + 1) (those s)) ++ rest) v₀ (next e (v .value-at .result) (v .value-at .ensures) cands rest v₀ h),
     )
 
 same-length : tie.Need-same-length Inv-loop μ-loop
 same-length c = c .before .loop .inv .2
 
 same-length-2 : tie.Need-same-length-2 Inv-loop μ-loop
-same-length-2 c = c .before .loop .inv .1 ∙ sym (c .before .before .before .before .before .before .before .pre .0 .3)
+same-length-2 c = c .before .loop .inv .1 ∙ sym (c .before .before .before .before .before .before .before .before .pre .0 .3)
 
 same-length-3 : tie.Need-same-length-3 Inv-loop μ-loop
 same-length-3 c = c .before .loop .inv .3
@@ -131,9 +132,9 @@ same-length-4 c = c .before .loop .inv .4
 
 returns : tie.Need-returns Inv-loop μ-loop
 returns c =
-    let s = c .before .before .before .before .before .before .before in
+    let s = c .before .before .before .before .before .before .before .before in
     let k = c .before .loop in
-    λ cands rest ws₀ h. subst (λ (xs : List Entry). Making (s .args .carry) (s .args .w) (s .args .p) (s .args .to) cands (map (mapped (s .args .c)) xs ++ rest) (k .r) ws₀ (k .ws) (k .index) (k .vals))
+    λ cands rest ws₀ h. subst (λ (xs : List Entry). Making (s .args .carry) (s .args .w) (s .args .p) (s .args .to) cands (map (batched (commandsOf (s .args .ops .now))) xs ++ rest) (k .r) ws₀ (k .ws) (k .index) (k .vals))
     (none-left (s .args .carry) (s .args .w) (s .args .p) (s .args .a) (s .args .n) (s .args .old .now) (s .args .ws .now) (below s) (s .pre .1 .1 .0 .0) (s .pre .1 .1 .0 .1) (k .j) (k .inv .0) (λ l. absurd (omega (arith, c .loop-test .left)))) (k .inv .5 cands rest ws₀ h)
 
 pub map-all-spec : {M : Type 1} → statement M

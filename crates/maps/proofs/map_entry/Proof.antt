@@ -5,63 +5,64 @@ use Prim.Native.Nat.{ℕ}
 use lib.ListN.{length}
 use Rattle.labels.specs.Labels.{labelCount}
 use Rattle.tables.specs.Definitions.{Pair}
-use Rattle.candidates.specs.Candidates.{pairOf, Readable, mapPairBy}
+use Rattle.candidates.specs.Candidates.{pairOf, Readable}
 use Rattle.rows.specs.Parts.{part}
+use Rattle.batches.specs.Batches.{commandsOf, batchPair}
 use Rattle.rows.proofs.Parts.{span, part-long}
 use Rattle.entries.specs.Carries.{Entry}
 use Rattle.making.specs.Making.{Making, entryOf}
-use Rattle.maps.specs.Maps.{mappedAt}
+use Rattle.maps.specs.Maps.{batchedAt}
 use borrow.Author.Needs.{needs}
 use Rattle.maps.proofs.map_entry.Statement.{statement}
 use Rattle.maps.proofs.map_entry.Tie as tie
 use native.Mathlib.Omega.{arith}
 
-module _ (u : tie.After-map-row) where
+module _ (u : tie.After-batch-row) where
   abbrev s : tie.Start
-  s = u .before .before .before .before .before .before .before .before
+  s = u .before .before .before .before .before .before .before .before .before
 
   -- how many words the candidate row has
-  long : length (u .map-row .last .0) ≡ s .args .w
-  long = u .map-row .kept .0 ∙ s .pre .0 .3
+  long : length (u .batch-row .last .0) ≡ s .args .w
+  long = u .batch-row .kept .0 ∙ s .pre .0 .3
 
-  readable : Readable (u .map-row .last .0)
-  readable = omega (arith, u .map-row .ensures .0, u .map-row .ensures .1)
+  readable : Readable (u .batch-row .last .0)
+  readable = omega (arith, u .batch-row .ensures .0, u .batch-row .ensures .1)
 
   -- the pair that it holds
-  holds : pairOf (u .map-row .last .0) ≡ mapPairBy labelCount (s .args .c) (pairOf (part (s .args .ra) (s .args .w) (s .args .ws .now)))
-  holds = rw (span (s .args .ra) (s .args .w)) at (u .map-row .ensures .2)
+  holds : pairOf (u .batch-row .last .0) ≡ batchPair labelCount (commandsOf (s .args .ops .now)) (pairOf (part (s .args .ra) (s .args .w) (s .args .ws .now)))
+  holds = rw (span (s .args .ra) (s .args .w)) at (u .batch-row .ensures .2)
 
   -- it is the next candidate
-  next : (cands rest : List Entry) (ws₀ : List ℕ) → Making (s .args .carry) (s .args .w) (s .args .p) (s .args .to) cands (mappedAt (s .args .w) (s .args .ra) (s .args .v) (s .args .c) (s .args .ws .now) ∷ rest) (s .args .m) ws₀ (s .args .ws .now) (s .args .index .now) (s .args .vals .now)
-      → Making (s .args .carry) (s .args .w) (s .args .p) (s .args .to) cands (entryOf (u .map-row .last .0) (s .args .v) ∷ rest) (s .args .m) ws₀ (s .args .ws .now) (s .args .index .now) (s .args .vals .now)
+  next : (cands rest : List Entry) (ws₀ : List ℕ) → Making (s .args .carry) (s .args .w) (s .args .p) (s .args .to) cands (batchedAt (s .args .w) (s .args .ra) (s .args .v) (commandsOf (s .args .ops .now)) (s .args .ws .now) ∷ rest) (s .args .m) ws₀ (s .args .ws .now) (s .args .index .now) (s .args .vals .now)
+      → Making (s .args .carry) (s .args .w) (s .args .p) (s .args .to) cands (entryOf (u .batch-row .last .0) (s .args .v) ∷ rest) (s .args .m) ws₀ (s .args .ws .now) (s .args .index .now) (s .args .vals .now)
   next cands rest ws₀ h =
       subst (λ (x : Pair). Making (s .args .carry) (s .args .w) (s .args .p) (s .args .to) cands (record { item = x; value = s .args .v } ∷ rest) (s .args .m) ws₀ (s .args .ws .now) (s .args .index .now) (s .args .vals .now)) (sym holds) h
 
-add-map-row : tie.Need-add-map-row
-add-map-row c = search needs
+add-batch-row : tie.Need-add-batch-row
+add-batch-row c = search needs
 
-mul-map-row : tie.Need-mul-map-row
-mul-map-row c = search needs
+mul-batch-row : tie.Need-mul-batch-row
+mul-batch-row c = search needs
 
-sub-map-row : tie.Need-sub-map-row
-sub-map-row c = search needs
+sub-batch-row : tie.Need-sub-batch-row
+sub-batch-row c = search needs
 
-part-map-row-start : tie.Need-part-map-row-start
-part-map-row-start c = search needs
+part-batch-row-start : tie.Need-part-batch-row-start
+part-batch-row-start c = search needs
 
-part-map-row-end : tie.Need-part-map-row-end
-part-map-row-end c = search needs
+part-batch-row-end : tie.Need-part-batch-row-end
+part-batch-row-end c = search needs
 
-map-row-requires : tie.Need-map-row-requires
-map-row-requires c κs =
-    let s = c .before .before .before .before .before .before .before in
+batch-row-requires : tie.Need-batch-row-requires
+batch-row-requires c κs =
+    let s = c .before .before .before .before .before .before .before .before in
     let q = span (s .args .ra) (s .args .w) in
-    (s .pre .1 .1 .0 .2, (rw q (s .pre .1 .1 .0 .0), (rw q (omega (arith, part-long (s .args .ra) (s .args .w) (s .args .ws .now) (s .pre .1 .0 .0), s .pre .0 .3)), omega (arith, s .pre .0 .1, s .pre .0 .3))))
+    (rw q (s .pre .1 .1 .0 .0), (rw q (omega (arith, part-long (s .args .ra) (s .args .w) (s .args .ws .now) (s .pre .1 .0 .0), s .pre .0 .3)), omega (arith, s .pre .0 .1, s .pre .0 .3)))
 
 put-entry-requires : tie.Need-put-entry-requires
 put-entry-requires c κs =
     let u = c .before .before .before .before .before .before in
-    let s = u .before .before .before .before .before .before .before .before in
+    let s = u .before .before .before .before .before .before .before .before .before in
     let N = s .pre .1 .1 .1 in
     ((s .pre .0 .0, s .pre .0 .2, s .pre .1 .0 .1), ((readable u, long u, s .pre .1 .1 .0 .1), (N .0, N .1, N .2, next u (N .0) (N .1) (N .2) (N .3))))
 
@@ -87,12 +88,12 @@ pub map-entry-spec : {M : Type 1} → statement M
 map-entry-spec =
     tie.close
     (tie.spec
-    add-map-row
-    mul-map-row
-    sub-map-row
-    part-map-row-start
-    part-map-row-end
-    map-row-requires
+    add-batch-row
+    mul-batch-row
+    sub-batch-row
+    part-batch-row-start
+    part-batch-row-end
+    batch-row-requires
     put-entry-requires
     same-length
     same-length-2

@@ -3,11 +3,12 @@ use mathlib.Core.Path.{sym, _∙_, subst}
 use mathlib.Core.List.{List, [], _++_, map}
 use Prim.Native.Nat.{_*_}
 use Rattle.rows.specs.Rows.{Rows}
+use Rattle.batches.specs.Batches.{commandsOf}
 use Rattle.entries.specs.Carries.{Entry}
 use Rattle.making.specs.Making.{Making, Stepped, entriesAt}
 use Rattle.making.proofs.Stepping.{stepped}
 use Rattle.making.proofs.Settling.{begin, finished, stepped-below, stepped-indexed}
-use Rattle.maps.specs.Maps.{mapped}
+use Rattle.maps.specs.Maps.{batched}
 use Rattle.maps.proofs.Mapping.{few-mapped, not-over}
 use borrow.Author.Needs.{needs}
 use Rattle.maps.proofs.map_table.Statement.{statement}
@@ -15,7 +16,7 @@ use Rattle.maps.proofs.map_table.Tie as tie
 use native.Mathlib.Omega.{arith}
 
 abbrev cands : tie.Start → List Entry
-cands s = map (mapped (s .args .c)) (entriesAt (s .args .carry) (s .args .w) (s .args .p) (s .args .a) (s .args .n) (s .args .old .now) (s .args .ws .now))
+cands s = map (batched (commandsOf (s .args .ops .now))) (entriesAt (s .args .carry) (s .args .w) (s .args .p) (s .args .a) (s .args .n) (s .args .old .now) (s .args .ws .now))
 
 -- none of them is in yet
 begins : (s : tie.Start) → Making (s .args .carry) (s .args .w) (s .args .p) (s .args .to) (cands s) (cands s ++ []) 0 (s .args .ws .now) (s .args .ws .now) (s .args .index .now) (s .args .vals .now)
@@ -23,7 +24,7 @@ begins s = begin (s .args .carry) (s .args .w) (s .args .p) (s .args .to) (cands
 
 module _ (u : tie.After-map-all) where
   abbrev s : tie.Start
-  s = u .before .before .before .before .before .before .before .before .before .before
+  s = u .before .before .before .before .before .before .before .before .before .before .before
 
   -- all of them are in
   made : Making (s .args .carry) (s .args .w) (s .args .p) (s .args .to) (cands s) [] (u .map-all .result) (s .args .ws .now) (u .map-all .last .0) (u .map-all .last .1 .1 .0) (u .map-all .last .1 .1 .1 .0)
@@ -34,13 +35,13 @@ module _ (u : tie.After-map-all) where
 
 map-all-requires : tie.Need-map-all-requires
 map-all-requires c κs =
-    let s = c .before .before .before .before .before .before .before .before .before in
+    let s = c .before .before .before .before .before .before .before .before .before .before in
     (s .pre .0, (s .pre .1 .0, (s .pre .1 .1 .0, (cands s, [], s .args .ws .now, begins s))))
 
 settle-requires : tie.Need-settle-requires
 settle-requires c κs =
     let u = c .before .before .before .before .before .before .before .before .before .before .before in
-    let s = u .before .before .before .before .before .before .before .before .before .before in
+    let s = u .before .before .before .before .before .before .before .before .before .before .before in
     let h = all-in u in (
       (s .pre .0 .0, u .map-all .kept .1 .0 ∙ s .pre .0 .3),
       (
@@ -65,8 +66,8 @@ returns : tie.Need-returns
 returns c =
     let k = c .before .before .before .before in
     let u = k .before .before .before .before .before .before .before .before .before .before .before .before in
-    let s = u .before .before .before .before .before .before .before .before .before .before in
-    let few = few-mapped (s .args .carry) (s .args .w) (s .args .p) (s .args .a) (s .args .n) (s .args .old .now) (s .args .ws .now) (omega (arith, s .pre .1 .0 .0, s .pre .1 .0 .1)) (s .pre .1 .1 .0 .0) (s .pre .1 .1 .0 .1) (s .args .c) in
+    let s = u .before .before .before .before .before .before .before .before .before .before .before in
+    let few = few-mapped (s .args .carry) (s .args .w) (s .args .p) (s .args .a) (s .args .n) (s .args .old .now) (s .args .ws .now) (omega (arith, s .pre .1 .0 .0, s .pre .1 .0 .1)) (s .pre .1 .1 .0 .0) (s .pre .1 .1 .0 .1) (commandsOf (s .args .ops .now)) in
     (not-over (made u) few, finished (s .pre .1 .0 .0) (s .pre .1 .0 .1) (s .pre .1 .1 .1 .0) (all-in u) (k .settle .ensures))
 
 pub map-table-spec : {M : Type 1} → statement M

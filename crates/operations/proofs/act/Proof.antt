@@ -1,13 +1,13 @@
 -- `operations::act`: one function for each kind of command.
 use Rattle.semantics.specs.AnswerSets.{byMasks}
 use Rattle.leaves.proofs.Writing.{wide-two}
-use Rattle.operations.proofs.Dispatch.{acts-as, atom-acts, rule-acts, union-acts, relabel-acts, connect-acts, atom-meets, rule-meets, union-meets, relabel-meets, connect-meets}
+use Rattle.operations.proofs.Dispatch.{acts-as, atom-acts, rule-acts, union-acts, relabel-acts, connect-acts, atom-meets, rule-meets, union-meets, relabel-meets, connect-meets, relabel-joins, connect-joins}
 use borrow.Author.Needs.{needs}
 use native.Mathlib.Omega.{arith}
 use borrow.Author.Needs.{needs}
 use Rattle.operations.proofs.act.Statement.{statement}
 use Rattle.operations.proofs.act.Tie as tie
-use Rattle.operations.proofs.map_newest.Reads as map-newest-reads
+use Rattle.operations.proofs.map_by.Reads as map-by-reads
 use Rattle.operations.proofs.push_atom.Reads as push-atom-reads
 use Rattle.operations.proofs.push_rule.Reads as push-rule-reads
 use Rattle.operations.proofs.unite_newest.Reads as unite-newest-reads
@@ -44,20 +44,20 @@ unite-newest-requires c κs =
 enum-told-2 : tie.Need-enum-told-2
 enum-told-2 c = search needs
 
-map-newest-requires : tie.Need-map-newest-requires
-map-newest-requires c κs =
+map-by-requires : tie.Need-map-by-requires
+map-by-requires c κs =
     let e = c .before .before .before .before .before in
     let s = e .before .before .before .before .before .before .before in
-    ((wide-two (s .args .kind) (s .args .w) (s .pre .0 .0), s .pre .0 .1, s .pre .0 .3, s .pre .0 .4, s .pre .0 .5, s .pre .0 .6), ((s .pre .1 .0 .0, s .pre .1 .0 .1, s .pre .1 .1 .0), (relabel-meets (s .args .d) (s .args .t) (s .args .a) (e .enum-told2 .given .1) (s .pre .1 .1 .1), (s .args .m, s .pre .1 .1 .2))))
+    ((wide-two (s .args .kind) (s .args .w) (s .pre .0 .0), s .pre .0 .1, s .pre .0 .3, s .pre .0 .4, s .pre .0 .5, s .pre .0 .6), ((s .pre .1 .0 .0, s .pre .1 .0 .1, s .pre .1 .1 .0, relabel-joins (e .enum-told2 .given .1)), (relabel-meets (s .args .d) (s .args .t) (s .args .a) (e .enum-told2 .given .1) (s .pre .1 .1 .1), (s .args .m, s .pre .1 .1 .2))))
 
 enum-told-3 : tie.Need-enum-told-3
 enum-told-3 c = search needs
 
-map-newest-requires-2 : tie.Need-map-newest-requires-2
-map-newest-requires-2 c κs =
+map-by-requires-2 : tie.Need-map-by-requires-2
+map-by-requires-2 c κs =
     let e = c .before .before .before .before .before in
     let s = e .before .before .before .before .before .before .before in
-    ((wide-two (s .args .kind) (s .args .w) (s .pre .0 .0), s .pre .0 .1, s .pre .0 .3, s .pre .0 .4, s .pre .0 .5, s .pre .0 .6), ((s .pre .1 .0 .0, s .pre .1 .0 .1, s .pre .1 .1 .0), (connect-meets (s .args .d) (s .args .t) (s .args .a) (e .enum-told3 .given .1) (s .pre .1 .1 .1), (s .args .m, s .pre .1 .1 .2))))
+    ((wide-two (s .args .kind) (s .args .w) (s .pre .0 .0), s .pre .0 .1, s .pre .0 .3, s .pre .0 .4, s .pre .0 .5, s .pre .0 .6), ((s .pre .1 .0 .0, s .pre .1 .0 .1, s .pre .1 .1 .0, connect-joins (e .enum-told3 .given .1)), (connect-meets (s .args .d) (s .args .t) (s .args .a) (e .enum-told3 .given .1) (s .pre .1 .1 .1), (s .args .m, s .pre .1 .1 .2))))
 
 same-length : tie.Need-same-length
 same-length c = search needs
@@ -145,7 +145,7 @@ returns-4 c =
     let u = c .before .before .before .before .before .before .before .before .before .before in
     let e = u .before .before .before .before .before .before in
     let s = e .before .before .before .before .before .before .before in
-    acts-as _ (relabel-acts (s .args .kind) (s .args .carry) (byMasks (s .args .assumed-true) (s .args .assumed-false)) (s .args .a) _ _ (e .enum-told2 .given .1)) (u .map-newest .ensures (s .args .m))
+    acts-as _ (relabel-acts (s .args .kind) (s .args .carry) (byMasks (s .args .assumed-true) (s .args .assumed-false)) (s .args .a) _ _ (e .enum-told2 .given .1)) (u .map-by .ensures (s .args .m))
 
 same-length-21 : tie.Need-same-length-21
 same-length-21 c = search needs
@@ -167,7 +167,7 @@ returns-5 c =
     let u = c .before .before .before .before .before .before .before .before .before .before in
     let e = u .before .before .before .before .before .before in
     let s = e .before .before .before .before .before .before .before in
-    acts-as _ (connect-acts (s .args .kind) (s .args .carry) (byMasks (s .args .assumed-true) (s .args .assumed-false)) (s .args .a) _ _ _ (e .enum-told3 .given .1)) (u .map-newest2 .ensures (s .args .m))
+    acts-as _ (connect-acts (s .args .kind) (s .args .carry) (byMasks (s .args .assumed-true) (s .args .assumed-false)) (s .args .a) _ _ _ (e .enum-told3 .given .1)) (u .map-by2 .ensures (s .args .m))
 
 pub act-spec : {M : Type 1} → statement M
 act-spec =
@@ -180,9 +180,9 @@ act-spec =
     enum-told
     unite-newest-requires
     enum-told-2
-    map-newest-requires
+    map-by-requires
     enum-told-3
-    map-newest-requires-2
+    map-by-requires-2
     same-length
     same-length-2
     same-length-3

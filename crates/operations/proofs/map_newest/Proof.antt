@@ -1,20 +1,19 @@
--- `operations::map_newest`: where a row changes, the newest table is mapped and its values moved to its place.
+-- `operations::map_newest`: the newest table is mapped and its values moved to its place.
 use mathlib.Core.Path.{_≡_, refl, sym, ap, _∙_, subst}
 use mathlib.Core.List.{List}
 use Prim.Native.Nat.{ℕ, _+_, _-_, _*_, _≤_, _<_}
 use lib.ListN.{length, take, drop}
 use Rattle.rows.proofs.Tables.{row-within}
+use Rattle.batches.specs.Batches.{commandsOf}
 use Rattle.workspace.specs.Workspace.{valuesFrom}
 use Rattle.operations.specs.Operations.{Loaded}
 use Rattle.operations.proofs.Loads.{rest-is, beside-room, start-within, beside-rest, below, inside, area-behind, scratch-zero, newer-stands, Stands, stands-rows, stands-few}
-use Rattle.operations.proofs.Mapping.{unchanged-acted, mapped-acted}
+use Rattle.operations.proofs.Mapping.{mapped-acted}
 use borrow.Author.Needs.{needs}
 use native.Mathlib.Omega.{arith}
-use borrow.Author.Tests.{not-true}
 use borrow.Author.Needs.{needs}
 use Rattle.operations.proofs.map_newest.Statement.{statement}
 use Rattle.operations.proofs.map_newest.Tie as tie
-use Rattle.maps.proofs.changes_table.Reads as changes-table-reads
 use Rattle.maps.proofs.map_table.Reads as map-table-reads
 use Rattle.operations.proofs.values_from.Reads as values-from-reads
 use Rattle.workspace.proofs.move_values.Reads as move-values-reads
@@ -42,7 +41,7 @@ module _ (s : tie.Start) where
   last = inside (held s) (s .args .d - 1) (omega (arith, deep))
 
 abbrev start : tie.After-values-from → tie.Start
-start c = c .before .before .before .before .before .before .before .before .before
+start c = c .before .before .before .before .before .before .before
 
 abbrev from : tie.After-values-from → ℕ
 from c = c .values-from .result
@@ -51,27 +50,13 @@ within : (c : tie.After-values-from) → from c ≤ length (start c .args .vals 
 within c = let s = start c in start-within (s .args .carry) (s .args .d) (s .args .p) (i s) (s .args .vals .now) (deep s) (s .pre .1 .0 .1) (from c) (c .values-from .ensures)
 
 mul-area : tie.Need-mul-area
-mul-area c = let s = c .before .before .before .before .before in omega (arith, one s)
+mul-area c = let s = c .before .before .before .before .before .before in omega (arith, one s)
 
 sub-i : tie.Need-sub-i
 sub-i c = search needs
 
 mul-a : tie.Need-mul-a
-mul-a c = let s = c .before .before .before .before .before in omega (arith, there s)
-
-changes-table-requires : tie.Need-changes-table-requires
-changes-table-requires c κs =
-    let s = c .before .before .before .before .before .before in
-    let S = newer-stands (s .pre .1 .1 .1 .1 .0) (held s) (s .pre .1 .1 .0) in
-    (there s, stands-rows S (i s * k s) (s .args .n) refl (held s .newer), s .pre .1 .0 .2)
-
-same-length : tie.Need-same-length
-same-length c = search needs
-
-returns : tie.Need-returns
-returns c =
-    let s = c .before .before .before .before .before .before .before .before in
-    λ m. (λ ts beyond h. unchanged-acted (s .args .c) (s .pre .0 .0) (s .pre .1 .1 .0) (i s * k s) refl (sym (c .before .changes-table .ensures) ∙ not-true _ (c .if1 .taken)) ts h, λ l. s .pre .1 .0 .0)
+mul-a c = let s = c .before .before .before .before .before .before in omega (arith, there s)
 
 values-from-requires : tie.Need-values-from-requires
 values-from-requires c κs = search needs
@@ -102,7 +87,7 @@ map-table-requires c κs =
       (s .pre .0 .0, s .pre .0 .1, s .pre .0 .2, s .pre .0 .4),
       (
         (omega (arith, row-within (i s) (s .args .d - 1) (k s) (omega (arith, deep s))), omega (arith, last s)),
-        ((stands-rows S (i s * k s) (s .args .n) refl (held s .newer), beside-rest (s .args .carry) (s .args .d) (s .args .p) (i s) (s .args .vals .now) (deep s) (s .pre .1 .0 .1) (from v) (v .values-from .ensures) (s .args .n) (stands-few S (i s * k s) (s .args .n) refl (held s .newer)), s .pre .1 .0 .2), (scratch-zero (held s), s .pre .0 .5, s .pre .1 .0 .0)),
+        ((stands-rows S (i s * k s) (s .args .n) refl (held s .newer), beside-rest (s .args .carry) (s .args .d) (s .args .p) (i s) (s .args .vals .now) (deep s) (s .pre .1 .0 .1) (from v) (v .values-from .ensures) (s .args .n) (stands-few S (i s * k s) (s .args .n) refl (held s .newer))), (scratch-zero (held s), s .pre .0 .5, s .pre .1 .0 .0)),
       ),
     )
 
@@ -111,6 +96,9 @@ move-values-requires c κs =
     let u = c .before .before .before .before .before .before .before .before .before .before in
     let s = start (u .before .before .before .before .before .before .before) in
     (u .map-table .ensures .1 .kept (u .map-table .ensures .0), beside-room (s .args .carry) (s .args .d) (s .args .p) (i s) (s .args .vals .now) (deep s) (s .pre .1 .0 .1), u .map-table .ensures .0)
+
+same-length : tie.Need-same-length
+same-length c = search needs
 
 same-length-2 : tie.Need-same-length-2
 same-length-2 c = search needs
@@ -124,16 +112,13 @@ same-length-4 c = search needs
 same-length-5 : tie.Need-same-length-5
 same-length-5 c = search needs
 
-same-length-6 : tie.Need-same-length-6
-same-length-6 c = search needs
-
-returns-2 : tie.Need-returns-2
-returns-2 c =
+returns : tie.Need-returns
+returns c =
     let m = c .before .before .before .before in
     let u = m .before .before .before .before .before .before .before .before .before .before .before in
     let v = u .before .before .before .before .before .before .before in
     let s = start v in
-    λ x. (λ ts beyond h. mapped-acted (s .args .c) (s .pre .0 .0) (s .pre .1 .1 .0) (i s * k s) refl (s .pre .1 .0 .1) (from v) (v .values-from .ensures) (rw (rest-is (from v) (s .args .vals .now)) at (u .map-table .ensures .1)) (λ l. m .move-values .ensures .1) ts h, λ l. m .move-values .ensures .0)
+    (u .map-table .ensures .0, λ x. (λ ts beyond h. mapped-acted (commandsOf (s .args .ops .now)) (s .pre .0 .0) (s .pre .1 .1 .0) (i s * k s) refl (s .pre .1 .0 .1) (from v) (v .values-from .ensures) (rw (rest-is (from v) (s .args .vals .now)) at (u .map-table .ensures .1)) (λ l. m .move-values .ensures .1) ts h, λ l. m .move-values .ensures .0))
 
 pub map-newest-spec : {M : Type 1} → statement M
 map-newest-spec =
@@ -142,9 +127,6 @@ map-newest-spec =
     mul-area
     sub-i
     mul-a
-    changes-table-requires
-    same-length
-    returns
     values-from-requires
     mul-map-table
     sub-map-table
@@ -154,9 +136,9 @@ map-newest-spec =
     mul-map-table-2
     map-table-requires
     move-values-requires
+    same-length
     same-length-2
     same-length-3
     same-length-4
     same-length-5
-    same-length-6
-    returns-2)
+    returns)

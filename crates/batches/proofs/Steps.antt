@@ -1,0 +1,159 @@
+-- Commands of a batch: what a word stands for, and what they make of triples one after the other. Assumes nothing.
+use mathlib.Core.Path.{_≡_, refl, sym, ap, _∙_}
+use mathlib.Core.Bool.{Bool, true, false, cond}
+use mathlib.Core.List.{List, [], _∷_, map}
+use Prim.Native.Nat.{ℕ, zero, suc, _+_, _*_, _/_, _%_, _^_, _≤_, _<_}
+use native.Mathlib.Nat.{one-mul, mod-lt, not-suc-le-zero, le-of-suc-le-suc}
+use native.Mathlib.Numerals.{add-one}
+use native.Mathlib.Omega.{arith}
+use lib.Bits.{bitOr}
+use lib.Pow.{shl-exact}
+use lib.Dec.{eqb}
+use borrow.Author.Tests.{eq-eqb, ne-eqb}
+use lib.ListN.{length, drop, getD, drop-of-length-le}
+use lib.Seq.{drop-cons}
+use Rattle.labels.specs.Labels.{labelCount}
+use Rattle.expression.specs.declared.Kind.{Kind}
+use Rattle.expression.specs.declared.Kind.the-variants.{Head, Positive, Negative}
+use Rattle.expression.specs.declared.Command.{Command}
+use Rattle.expression.specs.declared.Command.the-variants.{Atom, Rule, Union, Relabel, Connect}
+use Rattle.expression.specs.Commands.{Suits}
+use Rattle.tables.specs.Triples.{markU}
+use Rattle.candidates.specs.Candidates.{mapTriple}
+use Rattle.batches.specs.Batches.{Joins, formed, commandOf, commandsOf, stepTriple, step, steps}
+
+-- the labels of a word are below K
+suits-formed : (K f i j : ℕ) → i < K → j < K → Suits K (formed f i j)
+unfolding formed Suits
+suits-formed K f i j a b = go (eqb f 0) (eqb f 1) (eqb f 2) (eqb f 3)
+  where
+    go : (x y z v : Bool) → Suits K (cond x (Rule j) (cond y (Relabel i j) (cond z (Connect Head i j) (cond v (Connect Positive i j) (Connect Negative i j)))))
+    go true y z v = b
+    go false true z v = (a, b)
+    go false false true v = (a, b)
+    go false false false true = (a, b)
+    go false false false false = (a, b)
+
+pub suits-word : (K : ℕ) → 0 < K → (w : ℕ) → Suits K (commandOf K w)
+unfolding commandOf
+suits-word K l w = suits-formed K (w / K / K) (w / K % K) (w % K) (mod-lt (w / K) l) (mod-lt w l)
+
+-- a word's command, by the tests in order
+module _ (K w : ℕ) where
+  abbrev form : ℕ
+  form = w / K / K
+
+  abbrev left : ℕ
+  left = w / K % K
+
+  abbrev right : ℕ
+  right = w % K
+
+  pub is-rule : form ≡ 0 → Rule right ≡ commandOf K w
+  unfolding commandOf formed
+  is-rule e = rw (eq-eqb form 0 e)
+
+  module _ (a : form ≡ 0 → ⊥) where
+    pub is-relabel : form ≡ 1 → Relabel left right ≡ commandOf K w
+    unfolding commandOf formed
+    is-relabel e = rw (ne-eqb form 0 a, eq-eqb form 1 e)
+
+    module _ (b : form ≡ 1 → ⊥) where
+      pub is-head : form ≡ 2 → Connect Head left right ≡ commandOf K w
+      unfolding commandOf formed
+      is-head e = rw (ne-eqb form 0 a, ne-eqb form 1 b, eq-eqb form 2 e)
+
+      module _ (d : form ≡ 2 → ⊥) where
+        pub is-positive : form ≡ 3 → Connect Positive left right ≡ commandOf K w
+        unfolding commandOf formed
+        is-positive e = rw (ne-eqb form 0 a, ne-eqb form 1 b, ne-eqb form 2 d, eq-eqb form 3 e)
+
+        pub is-negative : (form ≡ 3 → ⊥) → Connect Negative left right ≡ commandOf K w
+        unfolding commandOf formed
+        is-negative e = rw (ne-eqb form 0 a, ne-eqb form 1 b, ne-eqb form 2 d, ne-eqb form 3 e)
+
+-- the word of a form and two labels
+pub word-is : (f i j w : ℕ) → i < labelCount → j < labelCount → w ≡ (f * labelCount + i) * labelCount + j → commandOf labelCount w ≡ formed f i j
+unfolding commandOf
+word-is f i j w a b e =
+    let x : w / labelCount / labelCount ≡ f = omega arith in
+    let y : w / labelCount % labelCount ≡ i = omega arith in
+    let z : w % labelCount ≡ j = omega arith in rw (x, y, z)
+
+module _ (i j w : ℕ) (a : i < labelCount) (b : j < labelCount) where
+  pub head-word : w ≡ (2 * labelCount + i) * labelCount + j → commandOf labelCount w ≡ Connect Head i j
+  unfolding formed
+  head-word e = word-is 2 i j w a b e
+
+  pub positive-word : w ≡ (3 * labelCount + i) * labelCount + j → commandOf labelCount w ≡ Connect Positive i j
+  unfolding formed
+  positive-word e = word-is 3 i j w a b e
+
+  pub negative-word : w ≡ (4 * labelCount + i) * labelCount + j → commandOf labelCount w ≡ Connect Negative i j
+  unfolding formed
+  negative-word e = word-is 4 i j w a b e
+
+  pub relabel-word : w ≡ (1 * labelCount + i) * labelCount + j → commandOf labelCount w ≡ Relabel i j
+  unfolding formed
+  relabel-word e = word-is 1 i j w a b e
+
+pub rule-word : (g : ℕ) → g < labelCount → commandOf labelCount g ≡ Rule g
+unfolding formed
+rule-word g b = word-is 0 0 g g (omega arith) b (omega arith)
+
+-- what no batch has
+module _ {c : Command} where
+  pub no-atom : (g : ℕ) → c ≡ Atom g → Joins c → ⊥
+  no-atom g e h = rw e at h
+
+  pub no-union : c ≡ Union → Joins c → ⊥
+  no-union e h = rw e at h
+
+-- a step, by the command's form
+module _ (K : ℕ) (c : Command) where
+  pub rule-label : {g : ℕ} → c ≡ Rule g → Suits K c → g < K
+  unfolding Suits
+  rule-label e h = rw e at h
+
+  pub rule-steps : (g q r : ℕ) → c ≡ Rule g → bitOr r (markU K g) ≡ stepTriple K c q r
+  unfolding stepTriple
+  rule-steps g q r e = rw e
+
+  pub relabel-steps : (i j q r : ℕ) → c ≡ Relabel i j → mapTriple K c q r ≡ stepTriple K c q r
+  unfolding stepTriple mapTriple
+  relabel-steps i j q r e = rw e
+
+  pub connect-steps : (k : Kind) (i j q r : ℕ) → c ≡ Connect k i j → mapTriple K c q r ≡ stepTriple K c q r
+  unfolding stepTriple mapTriple
+  connect-steps k i j q r e = rw e
+
+  pub atom-steps : (g q r : ℕ) → c ≡ Atom g → r ≡ stepTriple K c q r
+  unfolding stepTriple
+  atom-steps g q r e = rw e
+
+  pub union-steps : (q r : ℕ) → c ≡ Union → r ≡ stepTriple K c q r
+  unfolding stepTriple
+  union-steps q r e = rw e
+
+-- the mark of a rule in a word
+pub marked : (r g : ℕ) → g < labelCount → bitOr r ((1 * 2 ^ (2 * labelCount + g)) % 2 ^ 32) ≡ bitOr r (markU labelCount g)
+unfolding markU
+marked r g l = ap (bitOr r) (shl-exact 1 (2 * labelCount + g) 32 (omega arith) (omega arith) ∙ one-mul (2 ^ (2 * labelCount + g)))
+
+-- a list mapped, place by place
+pub map-read : (f : ℕ → ℕ) (l : List ℕ) (i : ℕ) → i < length l → getD (map f l) i 0 ≡ f (getD l i 0)
+map-read f [] i h = absurd (not-suc-le-zero h)
+map-read f (x ∷ l) zero h = refl
+map-read f (x ∷ l) (suc i) h = map-read f l i (le-of-suc-le-suc h)
+
+-- the next command of those left
+pub next-step : (goal ops : List ℕ) (k : ℕ) → k < length ops → (own : ℕ) (run : List ℕ) → steps labelCount (commandsOf (drop k ops)) (own ∷ run) ≡ goal
+    → (c : Command) → c ≡ commandOf labelCount (getD ops k 0) → (own' : ℕ) (run' : List ℕ) → own' ≡ stepTriple labelCount c own own → run' ≡ map (stepTriple labelCount c own) run
+    → steps labelCount (commandsOf (drop (k + 1) ops)) (own' ∷ run') ≡ goal
+unfolding steps step
+next-step goal ops k l own run h c ec own' run' eo er = rw (eo, er, ec, add-one k) (rw (drop-cons ops k 0 l) at h)
+
+-- none is left
+pub no-steps : (ops : List ℕ) (k : ℕ) → length ops ≤ k → (x goal : List ℕ) → steps labelCount (commandsOf (drop k ops)) x ≡ goal → x ≡ goal
+unfolding steps
+no-steps ops k l x goal h = rw (drop-of-length-le ops {i = k} l) at h

@@ -1,0 +1,114 @@
+// Commands that may be done at once on the newest table, read from an expression: relabels, connects, and a rule with the union behind it.
+use commands::counting::counted;
+use commands::reading::read_at;
+use expression::Command;
+use expression::Counts;
+use expression::Read;
+ghost use mathlib.Core.Path.{_≡_};
+ghost use Prim.Native.Nat.{ℕ, _≤_};
+ghost use lib.ListN.{length, take};
+ghost use Rattle.labels.specs.Labels.{labelCount};
+ghost use Rattle.expression.specs.declared.Read.the-variants.{Command as Got};
+ghost use Rattle.expression.specs.declared.Command.the-variants.{Rule};
+ghost use Rattle.expression.specs.Commands.{readAt};
+ghost use Rattle.batches.specs.Batches.{commandsOf};
+ghost use Rattle.stretches.specs.Stretches.{Spelt, SpeltBy, Chain, joinedCounts, chainCounts};
+
+// Such a command, and the offset after it; or another one.
+pub enum Joined {
+    By(Command, usize),
+    Other,
+}
+
+// How far such commands go, how many they are, and the counts after them.
+pub struct Stretch {
+    pub next: usize,
+    pub count: usize,
+    pub counts: Counts,
+}
+
+// A rule of label g that ends at `mid`, if a union that starts before `stop` stands there.
+fn with_union(s: &[u8], stop: usize, g: u32, mid: usize) -> Joined
+    ensures { λ r. ⌜ ((at : ℕ) → readAt labelCount (now (s .entry)) at ≡ Got (Rule g) mid → SpeltBy labelCount (now (s .entry)) stop at r) ⌝ }
+{
+    if stop <= mid {
+        return Joined::Other;
+    }
+    let r = read_at(s, mid);
+    let Read::Command(c, next) = r else {
+        return Joined::Other;
+    };
+    match c {
+        Command::Union => Joined::By(Command::Rule(g), next),
+        Command::Atom(_) => Joined::Other,
+        Command::Rule(_) => Joined::Other,
+        Command::Relabel(_, _) => Joined::Other,
+        Command::Connect(_, _, _) => Joined::Other,
+    }
+}
+
+// What stands at an offset.
+fn joined_at(s: &[u8], stop: usize, at: usize) -> Joined
+    ensures { λ r. ⌜ SpeltBy labelCount (now (s .entry)) stop at r ⌝ }
+{
+    let r = read_at(s, at);
+    let Read::Command(c, next) = r else {
+        return Joined::Other;
+    };
+    match c {
+        Command::Rule(g) => with_union(s, stop, g, next),
+        Command::Relabel(_, _) => Joined::By(c, next),
+        Command::Connect(_, _, _) => Joined::By(c, next),
+        Command::Atom(_) => Joined::Other,
+        Command::Union => Joined::Other,
+    }
+}
+
+// The counts after a command; after a rule and the union behind it.
+fn joined_counts(n: Counts, c: Command) -> Counts
+    ensures { λ r. ⌜ r ≡ joinedCounts n c ⌝ }
+{
+    let m = counted(n, c);
+    match c {
+        Command::Rule(_) => counted(m, Command::Union),
+        Command::Atom(_) => m,
+        Command::Union => m,
+        Command::Relabel(_, _) => m,
+        Command::Connect(_, _, _) => m,
+    }
+}
+
+// The commands from `at` on, each as a word, as many as there are and as there is room for; n are the counts before them.
+pub fn read_stretch(s: &[u8], stop: usize, at: usize, n: Counts, ops: &mut [u32]) -> Stretch
+    ensures { λ r. ⌜ (r .count ≤ length (now (ops .exit))) × Chain labelCount (now (s .entry)) stop at (r .next) (commandsOf (take (r .count) (now (ops .exit)))) × (r .counts ≡ chainCounts n (commandsOf (take (r .count) (now (ops .exit))))) ⌝ }
+{
+    let mut next = at;
+    let mut count = 0;
+    let mut counts = n;
+    while count < ops.len() {
+        if stop <= next {
+            return Stretch {
+                next,
+                count,
+                counts,
+            };
+        }
+        let j = joined_at(s, stop, next);
+        let Joined::By(c, after) = j else {
+            return Stretch {
+                next,
+                count,
+                counts,
+            };
+        };
+        ops[count] = batches::word_of(c);
+        counts = joined_counts(counts, c);
+        count += 1;
+        next = after;
+    }
+    Stretch {
+        next,
+        count,
+        counts,
+    }
+}

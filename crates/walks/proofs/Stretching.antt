@@ -1,0 +1,150 @@
+-- Commands done at once: the walk goes over them one by one, and none of their tables exceeds a limit. Assumes nothing.
+use mathlib.Core.Path.{_≡_, refl, sym, ap, _∙_, subst}
+use mathlib.Core.List.{List, [], _∷_, map}
+use Prim.Native.Nat.{ℕ, _+_, _-_, _≤_, _<_}
+use native.Mathlib.Omega.{arith}
+use lib.ListN.{length, take, length-map}
+use lib.Seq.{length-take-le}
+use Rattle.lists.specs.Lists.{All}
+use Rattle.lists.specs.Sorted.{insert, insertAll, canon}
+use Rattle.labels.specs.Labels.{labelCount}
+use Rattle.expression.specs.declared.Kind.{Kind}
+use Rattle.expression.specs.declared.Command.{Command}
+use Rattle.expression.specs.declared.Command.the-variants.{Atom, Rule, Union, Relabel, Connect}
+use Rattle.expression.specs.declared.Counts.{Counts}
+use Rattle.expression.specs.declared.Read.the-variants.{Command as Got}
+use Rattle.expression.specs.Commands.{readAt}
+use Rattle.expression.specs.Limits.{depthLimit}
+use Rattle.expression.specs.Reading.{counted, capped}
+use Rattle.expression.proofs.Commands.{read-ends}
+use Rattle.semantics.specs.Expressions.{Operations, act, uniteNewest, changeNewest}
+use Rattle.semantics.specs.AnswerSets.{Assumptions}
+use Rattle.tables.specs.Triples.{markU}
+use Rattle.tables.specs.Definitions.{pairs, flat}
+use Rattle.tables.specs.Algebras.{tables}
+use Rattle.values.specs.Values.{valued}
+use Rattle.decisions.specs.Decisions.{newest, pairsFault}
+use Rattle.batches.specs.Batches.{commandOf, commandsOf}
+use Rattle.entries.specs.declared.Carry.{Carry}
+use Rattle.entries.specs.Carries.{Entry, entryAlgebra, carriedBy}
+use Rattle.making.specs.Making.{tableOfAll}
+use Rattle.leaves.specs.declared.Tables.{Tables}
+use Rattle.leaves.specs.declared.Tables.the-variants.{Plain, Pairs}
+use Rattle.leaves.specs.Leaves.{algebraOf, tableAlgebra}
+use Rattle.maps.specs.Maps.{batchedTable, Small}
+use Rattle.maps.proofs.Composing.{batch-more, rule-united, small-batched}
+use Rattle.workspace.specs.Workspace.{Sound, pairsOf}
+use Rattle.operations.specs.Operations.{unitedTable, mappedTable}
+use Rattle.operations.proofs.Dispatch.{rule-acts, union-acts, relabel-acts, connect-acts}
+use Rattle.stretches.specs.declared.Stretch.{Stretch}
+use Rattle.stretches.specs.Stretches.{Spelt, Chain, joinedCounts, chainCounts}
+use Rattle.walks.specs.Walks.{Stands, Ahead, stretched}
+use Rattle.walks.proofs.Going.{Leading, Going, lead-on}
+use Rattle.walks.proofs.Keeping.{batched-sound, one-sound, kept-fault}
+
+-- the first command, then the others
+stretch-more : (carry : Carry) (c : Command) (cs : List Command) (x : List Entry) (us : List (List Entry)) → stretched carry cs (batchedTable carry (c ∷ []) x ∷ us) ≡ stretched carry (c ∷ cs) (x ∷ us)
+unfolding changeNewest
+stretch-more carry c [] x us = refl
+stretch-more carry c (e ∷ cs) x us = ap (λ (y : List Entry). y ∷ us) (batch-more carry c (e ∷ cs) x)
+
+-- a rule's table
+rule-table : (kind : Tables) (carry : Carry) (g : ℕ) → tableOfAll carry (tableAlgebra kind carry .unmet g ∷ []) ≡ entryAlgebra labelCount carry .unmet g ∷ []
+unfolding tableOfAll canon insertAll insert tableAlgebra algebraOf entryAlgebra valued pairs flat
+rule-table Plain carry g = refl
+rule-table Pairs carry g = refl
+
+-- commands go forward
+pub chain-up : (s : List ℕ) (stop at end : ℕ) (cs : List Command) → Chain labelCount s stop at end cs → at ≤ end
+unfolding Chain
+chain-up s stop at end [] h = omega (arith, h)
+chain-up s stop at end (c ∷ cs) h =
+    let r = chain-up s stop (h .1 .0) end cs (h .1 .2) in
+    let u = spelt-up c (h .1 .0) (h .1 .1) in omega arith
+  where
+    spelt-up : (c : Command) (next : ℕ) → Spelt labelCount s stop at c next → at < next
+    spelt-up (Relabel i j) next e = read-ends labelCount s at (Relabel i j) next e .0
+    spelt-up (Connect k i j) next e = read-ends labelCount s at (Connect k i j) next e .0
+    spelt-up (Rule g) next e = let a = read-ends labelCount s at (Rule g) (e .0) (e .1) in let b = read-ends labelCount s (e .0) Union next (e .3) in omega arith
+    spelt-up (Atom g) next e = absurd e
+    spelt-up Union next e = absurd e
+
+module _ (kind : Tables) (carry : Carry) (o : Assumptions) (w p stop : ℕ) (s : List ℕ) (wide : 2 ≤ w) (room : 1 ≤ p) (ends : stop ≤ length s) where
+  abbrev L : Counts → ℕ → Counts → List (List Entry) → Type 0
+  L z at n ts = Leading kind carry o w p stop s z at n ts
+
+  abbrev B : Operations (List Entry)
+  B = tables (tableAlgebra kind carry) o
+
+  unmet-sound : (r : ℕ) → Sound w p (pairsOf (entryAlgebra labelCount carry .unmet r ∷ []))
+  unfolding entryAlgebra valued pairs
+  unmet-sound r = one-sound carry w p wide room (markU labelCount r) (carriedBy carry .unit)
+
+  -- a command whose table can be kept
+  on : {z : Counts} {at : ℕ} {n : Counts} {ts : List (List Entry)} → L z at n ts → at < stop → (c : Command) (next : ℕ) → readAt labelCount s at ≡ Got c next
+      → (us : List (List Entry)) → us ≡ act B (n .atoms) c ts → Sound w p (pairsOf (newest us)) → L z next (capped (counted n c)) us
+  on {z} {at} {n} {ts} g l c next got us e h =
+      subst (L z next (capped (counted n c))) (sym e) (lead-on kind carry o w p stop s g ends l c next got (subst (λ (x : List (List Entry)). pairsFault p (w - 2) (pairsOf (newest x)) ≡ 0) e (kept-fault carry w p wide (newest us) h)) (capped (counted n c)) refl)
+
+  module _ {z : Counts} {at : ℕ} {n : Counts} {x : List Entry} {us : List (List Entry)} (g : L z at n (x ∷ us)) (l : at < stop) (h : Sound w p (pairsOf x)) (small : All (Small carry) x) where
+    one : (c : Command) (next : ℕ) → Spelt labelCount s stop at c next → L z next (joinedCounts n c) (batchedTable carry (c ∷ []) x ∷ us)
+    unfolding joinedCounts changeNewest uniteNewest
+    one (Relabel i j) next e = on g l (Relabel i j) next e _ (relabel-acts kind carry o (n .atoms) i j refl (x ∷ us)) (batched-sound carry w p (Relabel i j ∷ []) x h)
+    one (Connect k i j) next e = on g l (Connect k i j) next e _ (connect-acts kind carry o (n .atoms) k i j refl (x ∷ us)) (batched-sound carry w p (Connect k i j ∷ []) x h)
+    one (Rule r) next e =
+        let pushed = on g l (Rule r) (e .0) (e .1) ((entryAlgebra labelCount carry .unmet r ∷ []) ∷ x ∷ us) (ap (λ (t : List Entry). t ∷ x ∷ us) (sym (rule-table kind carry r)) ∙ rule-acts kind carry o (n .atoms) r refl (x ∷ us)) (unmet-sound r) in
+        subst (λ (t : List Entry). L z next (joinedCounts n (Rule r)) (t ∷ us)) (rule-united carry r x small)
+        (on pushed (e .2) Union next (e .3) (unitedTable carry x (entryAlgebra labelCount carry .unmet r ∷ []) ∷ us) (union-acts kind carry o _ refl ((entryAlgebra labelCount carry .unmet r ∷ []) ∷ x ∷ us)) (subst (λ (t : List Entry). Sound w p (pairsOf t)) (sym (rule-united carry r x small)) (batched-sound carry w p (Rule r ∷ []) x h)))
+    one (Atom r) next e = absurd e
+    one Union next e = absurd e
+
+  chain-leads : {z : Counts} {n : Counts} (cs : List Command) (at end : ℕ) (x : List Entry) (us : List (List Entry)) → L z at n (x ∷ us) → Sound w p (pairsOf x) → All (Small carry) x → Chain labelCount s stop at end cs
+      → L z end (chainCounts n cs) (stretched carry cs (x ∷ us))
+  unfolding Chain chainCounts
+  chain-leads {z} {n} [] at end x us g h small e = subst (λ k. L z k n (x ∷ us)) e g
+  chain-leads {z} {n} (c ∷ cs) at end x us g h small e =
+      subst (L z end (chainCounts (joinedCounts n c) cs)) (stretch-more carry c cs x us)
+      (chain-leads cs (e .1 .0) end (batchedTable carry (c ∷ []) x) us (one g (e .0) h small c (e .1 .0) (e .1 .1)) (batched-sound carry w p (c ∷ []) x h) (small-batched carry (c ∷ []) x small) (e .1 .2))
+
+  -- from what stands before them to what stands after them
+  pub going-ahead : {z n : Counts} {at : ℕ} {beyond ws vals counts ws' vals' counts' : List ℕ} {r : Stretch} (g : Going kind carry o w p stop s z beyond at n ws vals counts)
+      → Ahead carry (depthLimit + 1) w p stop at n s (g .stack) beyond r ws' vals' counts' → Going kind carry o w p stop s z beyond (r .next) (r .counts) ws' vals' counts'
+  unfolding Chain chainCounts
+  going-ahead {z} {n} {at} {r = r} g a = record {
+    stack = stretched carry (a .done) (g .stack);
+    leading = subst (λ m. L z (r .next) m (stretched carry (a .done) (g .stack))) (sym (a .after)) (go (g .stack) (g .leading) (g .stands .holds .sound) (a .small) (a .none));
+    stands = a .stands;
+  }
+    where
+      go : (ts : List (List Entry)) → L z at n ts → All (λ t. Sound w p (pairsOf t)) ts → All (Small carry) (newest ts) → (length ts ≡ 0 → a .done ≡ []) → L z (r .next) (chainCounts n (a .done)) (stretched carry (a .done) ts)
+      go (x ∷ us) l h small k = chain-leads (a .done) at (r .next) x us l (h .0) small (a .chain)
+      go [] l h small k = empty (a .done) (a .chain) (k refl)
+        where
+          empty : (cs : List Command) → Chain labelCount s stop at (r .next) cs → cs ≡ [] → L z (r .next) (chainCounts n cs) (stretched carry cs [])
+          empty [] c e = subst (λ k. L z k n []) c l
+          empty (y ∷ cs) c e = absurd (omega (arith, ap (λ (t : List Command). length t) e))
+
+-- ---- what was done
+
+pub no-words : (ops : List ℕ) (k : ℕ) → k ≡ 0 → commandsOf (take k ops) ≡ []
+no-words ops k e = rw e
+
+pub some-words : (ops : List ℕ) (k : ℕ) → k ≤ length ops → (k ≡ 0 → ⊥) → 0 < length (commandsOf (take k ops))
+some-words ops k l h = omega (arith, length-map (take k ops) (commandOf labelCount), length-take-le k ops l, h)
+
+module _ {carry : Carry} {w p stop at : ℕ} {n : Counts} {s : List ℕ} {ts : List (List Entry)} {beyond : List ℕ} {r : Stretch} {ws' vals' counts' : List ℕ} (cs : List Command)
+    (chain : Chain labelCount s stop at (r .next) cs) (after : r .counts ≡ chainCounts n cs) (small : All (Small carry) (newest ts)) where
+  -- nothing
+  pub none-done : cs ≡ [] → Stands carry (depthLimit + 1) w p ts beyond ws' vals' counts' → Ahead carry (depthLimit + 1) w p stop at n s ts beyond r ws' vals' counts'
+  none-done e h =
+      record { done = cs; chain = chain; after = after; none = λ l. e; small = small; stands = subst (λ (x : List Command). Stands carry (depthLimit + 1) w p (stretched carry x ts) beyond ws' vals' counts') (sym e) h }
+
+  -- something, on a table that is there
+  pub some-done : 0 < length cs → 1 ≤ length ts → Stands carry (depthLimit + 1) w p (changeNewest (batchedTable carry cs) ts) beyond ws' vals' counts'
+      → Ahead carry (depthLimit + 1) w p stop at n s ts beyond r ws' vals' counts'
+  some-done l one h =
+      record { done = cs; chain = chain; after = after; none = λ k. absurd (omega (arith, one, k)); small = small; stands = subst (λ (x : List (List Entry)). Stands carry (depthLimit + 1) w p x beyond ws' vals' counts') (sym (some-stretched cs l)) h }
+    where
+      some-stretched : (ds : List Command) → 0 < length ds → stretched carry ds ts ≡ changeNewest (batchedTable carry ds) ts
+      some-stretched [] k = absurd (omega arith)
+      some-stretched (d ∷ ds) k = refl
