@@ -114,24 +114,22 @@ fn less_one(depth: u64) -> u64
 
 // ---- sheets
 
-// Which sheets are drawn: those that pass checks 5 to 12; those with one byte changed, or cut; commands that need not make sense together.
-pub const VALID: u64 = 0;
-
-pub const DAMAGED: u64 = 1;
-
-pub const NOISE: u64 = 2;
-
-// A sheet of a style; the answer is its length. The second fact is what a caller has to know to take that part of its array.
+// A sheet of one of four styles: commands that need not make sense together; a sheet that is cut or has one byte changed; and twice one that passes
+// checks 5 to 12. The answer is its length; the second fact is what a caller has to know to take that part of its array.
 pub fn sheet(style: u64, seed: u64, out: &mut [u8]) -> usize
     requires { ⌜ 128 ≤ length (now out) ⌝ }
     ensures { λ r. ⌜ (r ≤ length (now (out .exit))) × (r ≡ length (take r (now (out .exit)))) ⌝ }
 {
-    let n = draft(style, seed, out);
-    if style != DAMAGED {
+    let n = draft(style % 4, seed, out);
+    if style % 4 != DAMAGED {
         return n;
     }
     damage(drawn(next_seed(seed / 3)), n, out)
 }
+
+const NOISE: u64 = 0;
+
+const DAMAGED: u64 = 1;
 
 fn draft(style: u64, seed: u64, out: &mut [u8]) -> usize
     ensures { λ r. ⌜ r ≤ 108 ⌝ }

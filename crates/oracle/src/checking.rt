@@ -1,4 +1,4 @@
-// The checks that come before any table: 1 to 13 in 01's order.
+// The checks that come before any table: 1 to 14 in 01's order.
 use crate::Request;
 use expression::limits::BYTE_LIMIT;
 use expression::limits::TABLE_LIMIT;
@@ -6,12 +6,16 @@ use expression::refusals::ABSENT;
 use expression::refusals::CLASH;
 use expression::refusals::CRAMPED;
 use expression::refusals::LIMITS;
+use expression::refusals::OFFSET;
 use expression::refusals::OVERLONG;
 use expression::refusals::UNJOINED;
 use policies::Policy;
 use policies::no_policy;
 use policies::reading::read_to;
 use policies::refused;
+
+// In place of a refusal: more atoms or rules than are kept.
+pub const LARGE: u64 = 255;
 
 // The whole sheet read. A refusal stands in `fault` and `place`.
 pub fn check(s: &[u8], q: Request) -> Policy {
@@ -23,20 +27,47 @@ pub fn check(s: &[u8], q: Request) -> Policy {
     if p.fault != 0 {
         return p;
     }
-    ended(p, q, s.len())
+    ended(s, p, q)
 }
 
-// 12 and 13.
-fn ended(p: Policy, q: Request, end: usize) -> Policy {
+// 12 to 14.
+fn ended(s: &[u8], p: Policy, q: Request) -> Policy {
     let mut next = p;
-    next.place = end;
+    next.place = s.len();
+    next.fault = end_fault(p, q);
+    if next.fault != 0 {
+        return next;
+    }
+    if is_start(s, q) {
+        return p;
+    }
+    next.place = q.asked;
+    refused(next, OFFSET)
+}
+
+// 12 and 13; 0 where both pass.
+fn end_fault(p: Policy, q: Request) -> u64 {
     if p.depth != 1 {
-        return refused(next, UNJOINED);
+        return UNJOINED;
     }
     if has_absent(q.assumed_true | q.assumed_false, p.atoms.count) {
-        return refused(next, ABSENT);
+        return ABSENT;
     }
-    p
+    if p.atoms.count > 7 || p.rules.count > 8 {
+        return LARGE;
+    }
+    0
+}
+
+// Whether a command starts at the offset that a report asks for, of a sheet without faults.
+fn is_start(s: &[u8], q: Request) -> bool {
+    if !q.is_report {
+        return true;
+    }
+    if q.asked >= s.len() {
+        return false;
+    }
+    read_to(s, q.asked).at == q.asked
 }
 
 // 1 to 4; 0 where all pass.

@@ -1,11 +1,10 @@
 // Document 01 by enumeration, from the meaning of the rules alone: what a small sheet says, its tables and its answers. For testing the engine
 // against; slow and simple. It shares with the engine the limits' and refusals' numbers and no function or definition of tables. What a rule and pins
 // mean is proved (crate meaning); all else here is proved to stay within bounds and to end, and is right as far as it is tried (crate trials).
+pub mod answering;
 pub mod checking;
-pub mod deciding;
 pub mod tabulating;
 pub mod triples;
-pub mod walking;
 
 // The arguments of a decision or a report beside the sheet.
 pub struct Request {
@@ -19,6 +18,10 @@ pub struct Request {
     pub assumed_false: u64,
     // of the plain tables
     pub is_plain: bool,
+    // of the table after the command at an offset, for a buffer of so many words; else a decision
+    pub is_report: bool,
+    pub asked: usize,
+    pub buffer: u64,
 }
 
 // What a decision or a report answers: the value of a yes is the least mask that may be shown; a report has the kind YES, its number of entries for a

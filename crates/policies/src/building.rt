@@ -1,8 +1,6 @@
-// What one command does to what was built, and 9 to 11. An operand i or j is a label.
-ghost use Prim.Native.Nat.{_<_};
+// What one command does to what was built, and 9 to 11. Its operands i and j are labels.
 use crate::Members;
 use crate::Policy;
-use crate::refused;
 use crate::sets::linked;
 use crate::sets::moved;
 use crate::sets::set_at;
@@ -16,13 +14,23 @@ use expression::refusals::DEEP;
 
 // ---- members
 
+// Counts are under 512: kept so here, no caller has to know it.
+fn more(n: u64) -> u64 {
+    n % 512 + 1
+}
+
+fn less(n: u64) -> u64 {
+    if n == 0 {
+        return 0;
+    }
+    n - 1
+}
+
 // One more, with a label, as an operand of its own.
-fn added(m: Members, operand: u64, label: u64) -> Members
-    requires { ⌜ m .count < 256 ⌝ }
-{
+fn added(m: Members, operand: u64, label: u64) -> Members {
     let bit = kept_bit(m.count);
     Members {
-        count: m.count + 1,
+        count: more(m.count),
         labels: with(m.labels, label, bit),
         operands: with(m.operands, operand, bit),
     }
@@ -46,11 +54,9 @@ fn labelled(m: Members, operand: u64, label: u64) -> u64 {
     members_of(m, operand) & set_at(m.labels, label)
 }
 
-fn united(m: Members, newest: u64) -> Members
-    requires { ⌜ 0 < newest ⌝ }
-{
+fn united(m: Members, newest: u64) -> Members {
     let mut next = m;
-    next.operands = moved(m.operands, newest, newest - 1, members_of(m, newest));
+    next.operands = moved(m.operands, newest, less(newest), members_of(m, newest));
     next
 }
 
@@ -62,6 +68,34 @@ fn relabelled(m: Members, newest: u64, i: u64, j: u64) -> Members {
 
 // ---- commands
 
+// 9 to 11 for a command byte; 0 where all pass.
+pub fn fault_of(p: Policy, byte: u8) -> u64 {
+    match byte {
+        0x11 => leaf_fault(p.depth, p.atoms.count, ATOM_LIMIT),
+        0x12 => leaf_fault(p.depth, p.rules.count, RULE_LIMIT),
+        0x21 => operand_fault(p.depth, 2),
+        _ => operand_fault(p.depth, 1),
+    }
+}
+
+fn leaf_fault(depth: u64, count: u64, limit: u64) -> u64 {
+    if count >= limit {
+        return CROWDED;
+    }
+    if depth >= DEPTH_LIMIT {
+        return DEEP;
+    }
+    0
+}
+
+fn operand_fault(depth: u64, needed: u64) -> u64 {
+    if depth < needed {
+        return BARE;
+    }
+    0
+}
+
+// A command that has no fault.
 pub fn apply(p: Policy, byte: u8, i: u64, j: u64) -> Policy {
     match byte {
         0x11 => add_atom(p, i),
@@ -73,38 +107,23 @@ pub fn apply(p: Policy, byte: u8, i: u64, j: u64) -> Policy {
 }
 
 fn add_atom(p: Policy, label: u64) -> Policy {
-    if p.atoms.count >= ATOM_LIMIT {
-        return refused(p, CROWDED);
-    }
-    if p.depth >= DEPTH_LIMIT {
-        return refused(p, DEEP);
-    }
     let mut next = p;
-    next.depth = p.depth + 1;
+    next.depth = more(p.depth);
     next.atoms = added(p.atoms, next.depth, label);
     next
 }
 
 fn add_rule(p: Policy, label: u64) -> Policy {
-    if p.rules.count >= RULE_LIMIT {
-        return refused(p, CROWDED);
-    }
-    if p.depth >= DEPTH_LIMIT {
-        return refused(p, DEEP);
-    }
     let mut next = p;
-    next.depth = p.depth + 1;
+    next.depth = more(p.depth);
     next.rules = added(p.rules, next.depth, label);
     next
 }
 
 // 01: join.
 fn unite(p: Policy) -> Policy {
-    if p.depth < 2 {
-        return refused(p, BARE);
-    }
     let mut next = p;
-    next.depth = p.depth - 1;
+    next.depth = less(p.depth);
     next.atoms = united(p.atoms, p.depth);
     next.rules = united(p.rules, p.depth);
     next
@@ -112,9 +131,6 @@ fn unite(p: Policy) -> Policy {
 
 // 01: move.
 fn relabel(p: Policy, i: u64, j: u64) -> Policy {
-    if p.depth < 1 {
-        return refused(p, BARE);
-    }
     let mut next = p;
     next.atoms = relabelled(p.atoms, p.depth, i, j);
     next.rules = relabelled(p.rules, p.depth, i, j);
@@ -123,9 +139,6 @@ fn relabel(p: Policy, i: u64, j: u64) -> Policy {
 
 // 01: link.
 fn connect(p: Policy, byte: u8, i: u64, j: u64) -> Policy {
-    if p.depth < 1 {
-        return refused(p, BARE);
-    }
     let atoms = labelled(p.atoms, p.depth, i);
     let rules = labelled(p.rules, p.depth, j);
     let mut next = p;

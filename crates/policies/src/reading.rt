@@ -1,8 +1,9 @@
-// The sheet command by command, and 5 to 8.
+// The sheet command by command.
 ghost use Prim.Native.Nat.{_+_, _<_, _≤_};
 ghost use lib.ListN.{length};
 use crate::Policy;
 use crate::building::apply;
+use crate::building::fault_of;
 use crate::no_policy;
 use crate::refused;
 use expression::refusals::CUT;
@@ -40,7 +41,7 @@ fn done(s: &[u8], p: Policy) -> Policy
     requires { ⌜ p .at < length (now s) ⌝ }
 {
     let at = p.at;
-    let fault = fault_at(s, at);
+    let fault = fault_at(s, p);
     if fault != 0 {
         return refused(p, fault);
     }
@@ -72,7 +73,20 @@ fn length_at(s: &[u8], at: usize) -> usize
     n
 }
 
-fn fault_at(s: &[u8], at: usize) -> u64
+// 5 to 11; 0 where all pass.
+fn fault_at(s: &[u8], p: Policy) -> u64
+    requires { ⌜ p .at < length (now s) ⌝ }
+{
+    let at = p.at;
+    let fault = bytes_fault(s, at);
+    if fault != 0 {
+        return fault;
+    }
+    fault_of(p, s[at])
+}
+
+// 5 to 8.
+fn bytes_fault(s: &[u8], at: usize) -> u64
     requires { ⌜ at < length (now s) ⌝ }
 {
     let n = size(s[at]);

@@ -7,8 +7,7 @@ use libc::STDIN_FILENO;
 use libc::STDOUT_FILENO;
 use oracle::Answer;
 use oracle::Request;
-use oracle::deciding::decide;
-use oracle::walking::report;
+use oracle::answering::answer;
 
 // ---- the list: pairs of hexadecimal digits; a line that starts with # says what follows
 
@@ -103,30 +102,23 @@ fn sheet_length(list: &[u8], at: usize) -> usize
 fn request_at(list: &[u8], at: usize) -> Request
     requires { ⌜ at + 13 ≤ length (now list) ⌝ }
 {
+    let call = byte(list, at);
     Request {
         pair_limit: byte(list, at + 1) as u64,
         subset_limit: byte(list, at + 2) as u64,
         room: 9455616,
         assumed_true: byte(list, at + 3) as u64,
         assumed_false: byte(list, at + 4) as u64,
-        is_plain: byte(list, at) % 2 == 1,
+        is_plain: call % 2 == 1,
+        is_report: call > 1,
+        asked: byte(list, at + 5),
+        buffer: byte(list, at + 6) as u64,
     }
 }
 
-fn found_report(s: &[u8], q: Request, asked: usize, room: usize) -> Answer {
+fn found(s: &[u8], q: Request) -> Answer {
     let mut words = [0u32; 16512];
-    report(s, q, asked, room as u64, &mut words)
-}
-
-// What the sheet of the trial gives.
-fn found(s: &[u8], list: &[u8], at: usize) -> Answer
-    requires { ⌜ at + 13 ≤ length (now list) ⌝ }
-{
-    let q = request_at(list, at);
-    if byte(list, at) < 2 {
-        return decide(s, q);
-    }
-    found_report(s, q, byte(list, at + 5), byte(list, at + 6))
+    answer(s, q, &mut words)
 }
 
 // Whether it is what is listed.
@@ -148,7 +140,7 @@ fn agrees(trial: u64, list: &[u8], at: usize, n: usize) -> u64
     ensures { λ r. ⌜ r ≤ 1 ⌝ }
 {
     let from = at + HEAD;
-    let a = found(&list[from..from + n], list, at);
+    let a = found(&list[from..from + n], request_at(list, at));
     if is_listed(a, list, at) {
         return 1;
     }

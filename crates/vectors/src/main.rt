@@ -22,9 +22,8 @@ use oracle::REFUSED;
 use oracle::Request;
 use oracle::YES;
 use oracle::answered;
-use oracle::deciding::decide;
-use oracle::deciding::is_answer_set;
-use policies::reading::read_to;
+use oracle::answering::answer;
+use oracle::answering::is_answer_set;
 use report_calls::plain_report;
 use report_calls::report;
 use reporting::Report;
@@ -63,11 +62,11 @@ fn engine_decision(s: &[u8], q: Request, ws: &mut [u32]) -> Answer {
     ))
 }
 
-fn engine_report(s: &[u8], q: Request, asked: usize, ws: &mut [u32], out: &mut [u32]) -> Answer {
+fn engine_report(s: &[u8], q: Request, ws: &mut [u32], out: &mut [u32]) -> Answer {
     if q.is_plain {
         return report_answer(plain_report(
             s,
-            asked,
+            q.asked,
             q.pair_limit,
             q.subset_limit,
             q.assumed_true,
@@ -78,7 +77,7 @@ fn engine_report(s: &[u8], q: Request, asked: usize, ws: &mut [u32], out: &mut [
     }
     report_answer(report(
         s,
-        asked,
+        q.asked,
         q.pair_limit,
         q.subset_limit,
         q.assumed_true,
@@ -86,6 +85,13 @@ fn engine_report(s: &[u8], q: Request, asked: usize, ws: &mut [u32], out: &mut [
         ws,
         out,
     ))
+}
+
+fn engine_answer(s: &[u8], q: Request, ws: &mut [u32], out: &mut [u32]) -> Answer {
+    if q.is_report {
+        return engine_report(s, q, ws, out);
+    }
+    engine_decision(s, q, ws)
 }
 
 // ---- memory
@@ -135,8 +141,11 @@ fn cleared(q: Request, a: Answer) -> usize {
     workspace_need(q.pair_limit % 1025, q.subset_limit % 1025)
 }
 
-// The words of the buffer that a report writes: none with a refusal.
-fn written(a: Answer) -> usize {
+// How many words of the buffer it writes: none with a refusal.
+fn written(a: Answer, q: Request) -> usize {
+    if !q.is_report {
+        return 0;
+    }
     if a.kind == REFUSED {
         return 0;
     }
@@ -145,13 +154,9 @@ fn written(a: Answer) -> usize {
 
 // ---- what a trial says: the number of a refusal that is agreed on, or one of these
 
-const AGREED_NO: u64 = 20;
-
-const AGREED_YES: u64 = 21;
+const AGREED: u64 = 20;
 
 const AGREED_TABLE: u64 = 22;
-
-const TOO_LARGE: u64 = 23;
 
 // Disagreements.
 const OUTCOME: u64 = 32;
@@ -162,54 +167,57 @@ const WORKSPACE: u64 = 34;
 
 const BUFFER: u64 = 35;
 
-fn judged(found: Answer, expected: Answer) -> u64 {
-    if found.kind != expected.kind {
-        return OUTCOME;
+fn is_same(a: Answer, b: Answer) -> bool {
+    if a.kind != b.kind {
+        return false;
     }
-    if found.value != expected.value {
-        return OUTCOME;
+    if a.value != b.value {
+        return false;
     }
-    if found.place != expected.place {
-        return OUTCOME;
-    }
-    agreed(found)
+    a.place == b.place
 }
 
-fn agreed(a: Answer) -> u64 {
+// Whether both say yes to a decision: each shows a plan of its own.
+fn is_yes(found: Answer, expected: Answer, q: Request) -> bool {
+    if q.is_report {
+        return false;
+    }
+    if found.kind != YES {
+        return false;
+    }
+    expected.kind == YES
+}
+
+// Whether a plan may be shown; a plain yes shows none.
+fn shows(s: &[u8], q: Request, plan: u64) -> bool {
+    if q.is_plain {
+        return plan == 0;
+    }
+    is_answer_set(s, q, plan)
+}
+
+// AGREED with the kind added, if it is no refusal.
+fn agreed(a: Answer, q: Request) -> u64 {
     if a.kind == REFUSED {
         return a.value;
     }
-    if a.kind == YES {
+    if q.is_report {
         return AGREED_TABLE;
     }
-    AGREED_NO
+    AGREED + a.kind % 4
 }
 
-// A yes of both: a plain one shows no plan.
-fn judged_plan(s: &[u8], q: Request, plan: u64) -> u64 {
-    if q.is_plain {
-        if plan == 0 {
-            return AGREED_YES;
+fn judged(s: &[u8], q: Request, found: Answer, expected: Answer) -> u64 {
+    if is_yes(found, expected, q) {
+        if shows(s, q, found.value) {
+            return agreed(found, q);
         }
         return PLAN;
     }
-    if is_answer_set(s, q, plan) {
-        return AGREED_YES;
+    if is_same(found, expected) {
+        return agreed(found, q);
     }
-    PLAN
-}
-
-fn judged_decision(s: &[u8], q: Request, found: Answer) -> u64 {
-    let expected = decide(s, q);
-    if expected.kind == NOT_TRIED {
-        return TOO_LARGE;
-    }
-    if found.kind == YES {
-        if expected.kind == YES {
-            return judged_plan(s, q, found.value);
-        }
-    }
-    judged(found, expected)
+    OUTCOME
 }
 
 // ---- trials; the words lent are made for each, marked
@@ -218,59 +226,40 @@ fn judged_decision(s: &[u8], q: Request, found: Answer) -> u64 {
 const ROOM: usize = 20000;
 
 // Enough for most reports, not for all.
-const REPORT_ROOM: usize = 64;
+const BUFFER_ROOM: usize = 64;
 
-fn decision_in(s: &[u8], q: Request, ws: &mut [u32]) -> u64 {
-    let found = engine_decision(s, q, ws);
-    if has_zeros(ws, cleared(q, found)) {
-        return judged_decision(s, q, found);
-    }
-    WORKSPACE
-}
-
-fn try_decision(s: &[u8], q: Request) -> u64 {
-    let mut ws = [MARK; ROOM];
-    decision_in(s, q, &mut ws)
-}
-
-fn report_in(
+// The engine's answer, where it left its memory as it should; `words` are those of the oracle's report.
+fn compared(
     s: &[u8],
     q: Request,
-    asked: usize,
     words: &[u32; 16512],
     expected: Answer,
     ws: &mut [u32],
     out: &mut [u32],
 ) -> u64 {
-    let found = engine_report(s, q, asked, ws, out);
+    let found = engine_answer(s, q, ws, out);
     if !has_zeros(ws, cleared(q, found)) {
         return WORKSPACE;
     }
-    if !is_left(out, words, written(found)) {
+    if !is_left(out, words, written(found, q)) {
         return BUFFER;
     }
-    judged(found, expected)
+    judged(s, q, found, expected)
 }
 
-fn report_against(
-    s: &[u8],
-    q: Request,
-    asked: usize,
-    words: &[u32; 16512],
-    expected: Answer,
-) -> u64 {
+fn try_lent(s: &[u8], q: Request, words: &[u32; 16512], expected: Answer) -> u64 {
     let mut ws = [MARK; ROOM];
-    let mut out = [MARK; REPORT_ROOM];
-    report_in(s, q, asked, words, expected, &mut ws, &mut out)
+    let mut out = [MARK; BUFFER_ROOM];
+    compared(s, q, words, expected, &mut ws, &mut out)
 }
 
-fn try_report(s: &[u8], q: Request, asked: usize) -> u64 {
+fn try_request(s: &[u8], q: Request) -> u64 {
     let mut words = [0u32; 16512];
-    let expected = oracle::walking::report(s, q, asked, REPORT_ROOM as u64, &mut words);
+    let expected = answer(s, q, &mut words);
     if expected.kind == NOT_TRIED {
-        return TOO_LARGE;
+        return AGREED + NOT_TRIED;
     }
-    report_against(s, q, asked, &words, expected)
+    try_lent(s, q, &words, expected)
 }
 
 // ---- the sheets to try of 01 that are not starred
@@ -286,11 +275,15 @@ fn listed(s: &[u8], pins: u64, number: u64, place: usize) -> u64
         assumed_true: pins,
         assumed_false: pins,
         is_plain: false,
+        is_report: false,
+        asked: 0,
+        buffer: 0,
     };
-    if try_decision(s, q) != number {
+    let mut words = [0u32; 16512];
+    if !is_same(answer(s, q, &mut words), answered(REFUSED, number, place)) {
         return 0;
     }
-    if decide(s, q).place != place {
+    if try_request(s, q) != number {
         return 0;
     }
     1
@@ -301,62 +294,36 @@ fn try_listed() {
     let a = listed(nine, 0, 10, 16);
     let b = listed(b"\x11\x00\x11\x01", 0, 12, 4);
     let c = listed(b"", 1, 4, 0);
-    io::print_decimal(STDOUT_FILENO, a + b + c);
-    print(b" of 3 listed sheets\n");
+    print_number(a + b + c);
+    io::write_all(STDOUT_FILENO, b"of 3 listed sheets\n");
 }
 
 // ---- random trials
 
-const TRIALS: u64 = 30000;
+const TRIALS: u64 = 40000;
 
 fn request(seed: u64) -> Request {
     let x = drawn(seed);
     let more = next_seed(seed);
+    let last = drawn(next_seed(seed / 3));
     Request {
         pair_limit: limit(x),
         subset_limit: limit(x / 4096),
         room: ROOM as u64,
         assumed_true: pins(more),
         assumed_false: pins(next_seed(more)),
-        is_plain: x / 16777216 % 2 == 1,
-    }
-}
-
-// Mostly where a command starts; sometimes behind the end.
-fn asked_in(s: &[u8], x: u64) -> usize {
-    let k = (x / 8 % 64) as usize;
-    if k > s.len() {
-        return k;
-    }
-    if x % 8 == 0 {
-        return k;
-    }
-    read_to(s, k).at
-}
-
-fn try_sheet(s: &[u8], seed: u64) -> u64 {
-    let q = request(seed);
-    let x = drawn(next_seed(seed / 3));
-    if x % 2 == 0 {
-        return try_decision(s, q);
-    }
-    try_report(s, q, asked_in(s, x / 2))
-}
-
-// Half of the sheets are valid.
-fn style(x: u64) -> u64 {
-    match x % 4 {
-        0 => generator::DAMAGED,
-        1 => generator::NOISE,
-        _ => generator::VALID,
+        is_plain: last % 2 == 1,
+        is_report: last % 8 > 2,
+        asked: (last / 8 % 64) as usize,
+        buffer: BUFFER_ROOM as u64,
     }
 }
 
 fn try_seed(seed: u64) -> u64 {
     let mut bytes = [0u8; 128];
     let more = next_seed(seed / 5);
-    let n = sheet(style(drawn(more)), seed, &mut bytes);
-    try_sheet(&bytes[..n], more)
+    let n = sheet(drawn(more), seed, &mut bytes);
+    try_request(&bytes[..n], request(more))
 }
 
 // How often each answer of a trial was given.
@@ -365,7 +332,7 @@ fn count(counts: &mut [u64; 64], answer: u64) {
     counts[k] = counts[k] % 4294967296 + 1;
 }
 
-// Up to the first disagreement, which is printed.
+// Up to the first disagreement, which is printed: its seed and its kind.
 fn try_seeds(n: u64, counts: &mut [u64; 64]) {
     let mut seed: u64 = 1;
     let mut k: u64 = 0;
@@ -382,52 +349,36 @@ fn try_seeds(n: u64, counts: &mut [u64; 64]) {
 }
 
 fn print_disagreement(seed: u64, answer: u64) {
-    print_named(b"disagreement: seed ", seed);
-    print_named(b", kind ", answer);
-    print(b"\n");
+    print_number(seed);
+    print_number(answer);
+    io::write_all(STDOUT_FILENO, b"disagrees\n");
 }
 
-fn print(text: &[u8]) {
-    io::write_all(STDOUT_FILENO, text);
-}
-
-fn print_named(name: &[u8], x: u64) {
-    print(name);
+fn print_number(x: u64) {
     io::print_decimal(STDOUT_FILENO, x);
+    io::write_all(STDOUT_FILENO, b" ");
 }
 
-// ---- what is printed at the end
-
-fn print_name(answer: u64) {
-    match answer {
-        AGREED_NO => print(b"no"),
-        AGREED_YES => print(b"yes"),
-        AGREED_TABLE => print(b"reported"),
-        TOO_LARGE => print(b"not tried"),
-        _ => print_named(b"refused ", answer),
-    }
-}
-
-fn print_count(answer: u64, n: u64) {
-    if n == 0 {
-        return;
-    }
-    print_name(answer);
-    print_named(b": ", n);
-    print(b"\n");
-}
-
-fn print_counts(counts: &[u64; 64]) {
-    let mut k: usize = 0;
-    while k < 64 {
-        print_count(k as u64, counts[k]);
+fn print_counts(counts: &[u64; 64], from: usize, end: usize)
+    requires { ⌜ end ≤ 64 ⌝ }
+{
+    let mut k = from;
+    while k < end {
+        print_number(counts[k]);
         k += 1;
     }
+}
+
+fn print_all(counts: &[u64; 64]) {
+    print_counts(counts, 1, 18);
+    io::write_all(STDOUT_FILENO, b"refused, by number\n");
+    print_counts(counts, 20, 24);
+    io::write_all(STDOUT_FILENO, b"no, yes, reports, not tried\n");
 }
 
 fn main() {
     let mut counts = [0u64; 64];
     try_listed();
     try_seeds(TRIALS, &mut counts);
-    print_counts(&counts);
+    print_all(&counts);
 }

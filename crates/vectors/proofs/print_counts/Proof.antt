@@ -1,26 +1,26 @@
 -- `print_counts` is safe and ends. Assumes nothing.
-use Prim.Native.Nat.{_-_, _≤_}
+use Prim.Native.Nat.{_-_}
 use borrow.Author.Needs.{needs}
 use Rattle.vectors.proofs.print_counts.Statement.{statement}
 use Rattle.vectors.proofs.print_counts.Tie as tie
 
 abbrev Inv-loop : tie.InvT-loop
-Inv-loop counts k₀ k = k ≤ 64
+Inv-loop counts from end k₀ k = Unit {0}
 
 abbrev μ-loop : tie.MeasureT-loop
-μ-loop counts k₀ k = 64 - k
+μ-loop counts from end k₀ k = end - k
 
 loop-holds : tie.Need-loop-holds Inv-loop μ-loop
 loop-holds c = search needs
 
-mul-print-count : tie.Need-mul-print-count Inv-loop μ-loop
-mul-print-count c = search needs
+mul-print-number : tie.Need-mul-print-number Inv-loop μ-loop
+mul-print-number c = search needs
 
-element-copy-out-print-count : tie.Need-element-copy-out-print-count Inv-loop μ-loop
-element-copy-out-print-count c = search needs
+element-copy-out-print-number : tie.Need-element-copy-out-print-number Inv-loop μ-loop
+element-copy-out-print-number c = search needs
 
-print-count-requires : tie.Need-print-count-requires Inv-loop μ-loop
-print-count-requires c κs = search needs
+print-number-requires : tie.Need-print-number-requires Inv-loop μ-loop
+print-number-requires c κs = search needs
 
 add-k : tie.Need-add-k Inv-loop μ-loop
 add-k c = search needs
@@ -41,9 +41,9 @@ print-counts-spec =
     Inv-loop
     μ-loop
     loop-holds
-    mul-print-count
-    element-copy-out-print-count
-    print-count-requires
+    mul-print-number
+    element-copy-out-print-number
+    print-number-requires
     add-k
     loop-less
     loop-again

@@ -1,15 +1,18 @@
--- `walking::walk` is safe and ends. Assumes nothing.
+-- `answering::walk` is safe and ends. Assumes nothing.
 use Prim.Native.Nat.{_-_}
 use lib.ListN.{length}
 use borrow.Author.Needs.{needs}
-use Rattle.oracle.proofs.walking.walk.Statement.{statement}
-use Rattle.oracle.proofs.walking.walk.Tie as tie
+use Rattle.oracle.proofs.answering.walk.Statement.{statement}
+use Rattle.oracle.proofs.answering.walk.Tie as tie
 
 abbrev Inv-loop : tie.InvT-loop
-Inv-loop s q end out₀ p₀ out p = Unit {0}
+Inv-loop s q end words₀ a₀ p₀ words a p = Unit {0}
 
 abbrev μ-loop : tie.MeasureT-loop
-μ-loop s q end out₀ p₀ out p = length s - p .at
+μ-loop s q end words₀ a₀ p₀ words a p = length s - p .at
+
+answered-requires : tie.Need-answered-requires Inv-loop μ-loop
+answered-requires c κs = search needs
 
 no-policy-requires : tie.Need-no-policy-requires Inv-loop μ-loop
 no-policy-requires c κs = search needs
@@ -23,11 +26,8 @@ advance-requires c κs = search needs
 write-table-requires : tie.Need-write-table-requires Inv-loop μ-loop
 write-table-requires c κs = search needs
 
-table-fault-requires : tie.Need-table-fault-requires Inv-loop μ-loop
-table-fault-requires c κs = search needs
-
-refused-requires : tie.Need-refused-requires Inv-loop μ-loop
-refused-requires c κs = search needs
+table-answer-requires : tie.Need-table-answer-requires Inv-loop μ-loop
+table-answer-requires c κs = search needs
 
 returns : tie.Need-returns Inv-loop μ-loop
 returns c = search needs
@@ -47,12 +47,12 @@ walk-spec =
     (tie.spec
     Inv-loop
     μ-loop
+    answered-requires
     no-policy-requires
     loop-holds
     advance-requires
     write-table-requires
-    table-fault-requires
-    refused-requires
+    table-answer-requires
     returns
     loop-less
     loop-again

@@ -1,8 +1,8 @@
--- `deciding::enumerate` is safe and ends. Assumes nothing.
+-- `answering::enumerate` is safe and ends. Assumes nothing.
 use Prim.Native.Nat.{_-_, _≤_}
 use borrow.Author.Needs.{needs}
-use Rattle.oracle.proofs.deciding.enumerate.Statement.{statement}
-use Rattle.oracle.proofs.deciding.enumerate.Tie as tie
+use Rattle.oracle.proofs.answering.enumerate.Statement.{statement}
+use Rattle.oracle.proofs.answering.enumerate.Tie as tie
 
 abbrev Inv-loop : tie.InvT-loop
 Inv-loop p q i₀ i = i ≤ 128

@@ -1,0 +1,132 @@
+// What a decision or a report answers on a small sheet (01, Outcomes): yes and no by the rules alone, refusals and reports by the tables.
+ghost use Prim.Native.Nat.{_≤_};
+ghost use lib.ListN.{length};
+use crate::Answer;
+use crate::NO;
+use crate::NOT_TRIED;
+use crate::REFUSED;
+use crate::Request;
+use crate::YES;
+use crate::answered;
+use crate::checking::LARGE;
+use crate::checking::check;
+use crate::tabulating::Written;
+use crate::tabulating::write_table;
+use crate::triples::is_least;
+use crate::triples::is_model;
+use crate::triples::obeys;
+use expression::refusals::PLANS_FULL;
+use expression::refusals::REPORT_SHORT;
+use expression::refusals::SUBSETS_FULL;
+use policies::Policy;
+use policies::no_policy;
+use policies::reading::advance;
+
+// Tables are written at the front of `words`; that of a report stands there at the end.
+pub fn answer(s: &[u8], q: Request, words: &mut [u32; 16512]) -> Answer {
+    let p = check(s, q);
+    if p.fault != 0 {
+        return refusal(p);
+    }
+    let a = walk(s, q, end_of(s.len(), q), words);
+    if a.kind == REFUSED {
+        return a;
+    }
+    if q.is_report {
+        return fitted(a, q);
+    }
+    enumerate(p, q)
+}
+
+fn refusal(p: Policy) -> Answer {
+    if p.fault == LARGE {
+        return answered(NOT_TRIED, 0, 0);
+    }
+    answered(REFUSED, p.fault, p.place)
+}
+
+// ---- tables
+
+// A report stops after the command asked.
+fn end_of(length: usize, q: Request) -> usize
+    ensures { λ r. ⌜ r ≤ length ⌝ }
+{
+    if !q.is_report {
+        return length;
+    }
+    if q.asked >= length {
+        return length;
+    }
+    q.asked + 1
+}
+
+// The commands that start before an offset, each table made from nothing and held against the limits; the answer is that of the last.
+fn walk(s: &[u8], q: Request, end: usize, words: &mut [u32; 16512]) -> Answer
+    requires { ⌜ end ≤ length (now s) ⌝ }
+{
+    let mut a = answered(YES, 0, 0);
+    let mut p = no_policy();
+    while p.at < end {
+        p = advance(s, p);
+        a = table_answer(write_table(p, q, words), q, p.place);
+        if a.kind == REFUSED {
+            return a;
+        }
+    }
+    a
+}
+
+// 15 and 16.
+fn table_answer(w: Written, q: Request, place: usize) -> Answer {
+    if w.subsets > q.subset_limit {
+        return answered(REFUSED, SUBSETS_FULL, place);
+    }
+    if w.entries > q.pair_limit {
+        return answered(REFUSED, PLANS_FULL, place);
+    }
+    answered(YES, w.entries, w.words as usize)
+}
+
+// 17.
+fn fitted(a: Answer, q: Request) -> Answer {
+    if a.place as u64 > q.buffer {
+        return answered(REFUSED, REPORT_SHORT, q.asked);
+    }
+    a
+}
+
+// ---- answers by the rules alone
+
+// Whether some answer set (01: grounded plan) obeys the pins; of a plain request, whether some model does. The first one is given.
+fn enumerate(p: Policy, q: Request) -> Answer {
+    let mut i: u64 = 0;
+    while i < 128 {
+        if is_answer(p, q, i) {
+            return answered(YES, i, 0);
+        }
+        i += 1;
+    }
+    answered(NO, 0, 0)
+}
+
+fn is_answer(p: Policy, q: Request, i: u64) -> bool {
+    if !obeys(p, i, q) {
+        return false;
+    }
+    if !is_model(p, i, i) {
+        return false;
+    }
+    if q.is_plain {
+        return true;
+    }
+    is_least(p, i)
+}
+
+// Whether a mask may be shown with a yes: an answer set that obeys the pins, of the sheet's atoms alone.
+pub fn is_answer_set(s: &[u8], q: Request, mask: u64) -> bool {
+    let p = check(s, q);
+    if p.fault != 0 {
+        return false;
+    }
+    is_answer(p, q, mask)
+}
