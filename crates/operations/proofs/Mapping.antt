@@ -1,7 +1,7 @@
 -- Relabels, connects and unions with a rule on the newest table of a workspace. Assumes nothing.
-use mathlib.Core.Path.{_≡_, refl, sym, ap, ap₂, _∙_, subst}
+use mathlib.Core.Path.{_≡_, sym, ap, ap₂, _∙_, subst}
 use mathlib.Core.List.{List, [], _∷_, map}
-use Prim.Native.Nat.{ℕ, _+_, _-_, _*_, _≤_, _<_}
+use Prim.Native.Nat.{ℕ, _-_, _*_, _≤_, _<_}
 use native.Mathlib.Omega.{arith}
 use lib.ListN.{length, drop, length-map}
 use Rattle.lists.specs.Lists.{All}
@@ -19,7 +19,7 @@ use Rattle.entries.specs.declared.Carry.{Carry}
 use Rattle.entries.specs.Carries.{Entry, Beside}
 use Rattle.making.specs.Making.{Finished, entriesAt}
 use Rattle.maps.specs.Maps.{batched, batchedTable}
-use Rattle.workspace.specs.Workspace.{pairsOf, valuesFrom, Holds, placed, Acted}
+use Rattle.workspace.specs.Workspace.{pairsOf, valuesFrom, placed, Acted}
 use Rattle.workspace.proofs.Areas.{changed}
 use Rattle.workspace.proofs.Acting.{sound-pairs, acted}
 use Rattle.operations.specs.Operations.{Loaded}

@@ -12,7 +12,7 @@ ghost use Rattle.expression.specs.declared.Read.the-variants.{Command as Got};
 ghost use Rattle.expression.specs.declared.Command.the-variants.{Rule};
 ghost use Rattle.expression.specs.Commands.{readAt};
 ghost use Rattle.batches.specs.Batches.{commandsOf};
-ghost use Rattle.stretches.specs.Stretches.{Spelt, SpeltBy, Chain, joinedCounts, chainCounts};
+ghost use Rattle.stretches.specs.Stretches.{SpeltBy, Chain, joinedCounts, chainCounts};
 
 // Such a command, and the offset after it; or another one.
 pub enum Joined {

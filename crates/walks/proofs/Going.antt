@@ -2,7 +2,7 @@
 use mathlib.Core.Path.{_≡_, refl, sym, ap, _∙_, subst}
 use mathlib.Core.Bool.{Bool, true, false}
 use mathlib.Core.List.{List, [], _∷_, map}
-use Prim.Native.Nat.{ℕ, suc, _+_, _-_, _≤_, _<_}
+use Prim.Native.Nat.{ℕ, _+_, _-_, _≤_, _<_}
 use native.Mathlib.Omega.{arith}
 use lib.Dec.{ltb}
 use lib.ListN.{length}
@@ -13,15 +13,15 @@ use Rattle.expression.specs.declared.Counts.{Counts}
 use Rattle.expression.specs.declared.Read.the-variants.{Command as Got, Fault}
 use Rattle.expression.specs.Limits.{depthLimit}
 use Rattle.expression.specs.Commands.{Suits, readAt}
-use Rattle.expression.specs.Reading.{noCounts, newAtoms, depthAfter, counted, capped, countFault, Placed, whole, reading}
-use Rattle.expression.proofs.Totals.{Limited, counted-limited, capped-limited}
+use Rattle.expression.specs.Reading.{noCounts, newAtoms, depthAfter, counted, capped, countFault, Placed}
+use Rattle.expression.proofs.Totals.{counted-limited, capped-limited}
 use Rattle.expression.proofs.Checks.{Joined}
 use Rattle.expression.proofs.Remaining.{Remains, remains-start, remains-next, remains-end, Next}
 use Rattle.semantics.specs.Expressions.{Operations, act}
 use Rattle.semantics.specs.AnswerSets.{Assumptions}
 use Rattle.semantics.proofs.Readings.{read-suits}
 use Rattle.tables.specs.Algebras.{tables}
-use Rattle.decisions.specs.Decisions.{Walked, stopped, walked, newest, walk, commandsIn, pairsFault}
+use Rattle.decisions.specs.Decisions.{stopped, walked, newest, walk, commandsIn, pairsFault}
 use Rattle.entries.specs.declared.Carry.{Carry}
 use Rattle.entries.specs.Carries.{Entry}
 use Rattle.leaves.specs.declared.Tables.{Tables}

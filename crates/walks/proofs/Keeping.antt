@@ -1,11 +1,11 @@
 -- What commands done at once leave of a table can be kept, and its values are words. Assumes nothing.
-use mathlib.Core.Path.{_≡_, refl, sym, ap, _∙_, subst}
+use mathlib.Core.Path.{_≡_, refl, sym, _∙_, subst}
 use mathlib.Core.List.{List, [], _∷_, map}
-use Prim.Native.Nat.{ℕ, zero, suc, _+_, _-_, _*_, _^_, _≤_, _<_}
+use Prim.Native.Nat.{ℕ, zero, suc, _+_, _-_, _^_, _≤_, _<_}
 use native.Mathlib.Omega.{arith}
 use lib.ListN.{length, take, drop, getD, length-map}
 use Rattle.lists.specs.Lists.{All}
-use Rattle.lists.specs.Sorted.{compareNumbers, compareLists, second, Rising, setOf}
+use Rattle.lists.specs.Sorted.{compareNumbers, second, Rising, setOf}
 use Rattle.lists.proofs.Canon.{length-canon, length-canon-map}
 use Rattle.labels.specs.Labels.{labelCount}
 use Rattle.expression.specs.declared.Command.{Command}
@@ -16,13 +16,13 @@ use Rattle.tables.specs.Definitions.{Pair, subsets}
 use Rattle.decisions.specs.Decisions.{newest, pairsFault}
 use Rattle.rows.specs.Parts.{zeros}
 use Rattle.rows.specs.Rows.{Fit}
-use Rattle.batches.specs.Batches.{stepTriple, step, steps, cleaned, batchPair}
+use Rattle.batches.specs.Batches.{step, steps, cleaned, batchPair}
 use Rattle.entries.specs.declared.Carry.{Carry}
 use Rattle.entries.specs.declared.Carry.the-variants.{Nothing, First}
 use Rattle.entries.specs.Carries.{Entry, entryAlgebra, valuesIn}
 use Rattle.making.specs.Making.{tableOfAll, FitEntry}
 use Rattle.maps.specs.Maps.{batched, batchedTable, Small}
-use Rattle.workspace.specs.Workspace.{Sound, pairsOf, valuesOf, valuesFrom, HeldValues, faultOf, countsOf, Acted}
+use Rattle.workspace.specs.Workspace.{Sound, pairsOf, valuesOf, valuesFrom, HeldValues, Acted}
 use Rattle.workspace.proofs.Faults.{new-rising, of-candidates, no-fault}
 use Rattle.stacks.specs.Stacks.{Applies, tallied}
 use Rattle.stacks.proofs.Counts.{tally-act}

@@ -1,6 +1,6 @@
 -- Commands done at once: the walk goes over them one by one, and none of their tables exceeds a limit. Assumes nothing.
 use mathlib.Core.Path.{_≡_, refl, sym, ap, _∙_, subst}
-use mathlib.Core.List.{List, [], _∷_, map}
+use mathlib.Core.List.{List, [], _∷_}
 use Prim.Native.Nat.{ℕ, _+_, _-_, _≤_, _<_}
 use native.Mathlib.Omega.{arith}
 use lib.ListN.{length, take, length-map}
@@ -8,7 +8,6 @@ use lib.Seq.{length-take-le}
 use Rattle.lists.specs.Lists.{All}
 use Rattle.lists.specs.Sorted.{insert, insertAll, canon}
 use Rattle.labels.specs.Labels.{labelCount}
-use Rattle.expression.specs.declared.Kind.{Kind}
 use Rattle.expression.specs.declared.Command.{Command}
 use Rattle.expression.specs.declared.Command.the-variants.{Atom, Rule, Union, Relabel, Connect}
 use Rattle.expression.specs.declared.Counts.{Counts}
@@ -34,7 +33,7 @@ use Rattle.leaves.specs.Leaves.{algebraOf, tableAlgebra}
 use Rattle.maps.specs.Maps.{batchedTable, Small}
 use Rattle.maps.proofs.Composing.{batch-more, rule-united, small-batched}
 use Rattle.workspace.specs.Workspace.{Sound, pairsOf}
-use Rattle.operations.specs.Operations.{unitedTable, mappedTable}
+use Rattle.operations.specs.Operations.{unitedTable}
 use Rattle.operations.proofs.Dispatch.{rule-acts, union-acts, relabel-acts, connect-acts}
 use Rattle.stretches.specs.declared.Stretch.{Stretch}
 use Rattle.stretches.specs.Stretches.{Spelt, Chain, joinedCounts, chainCounts}

@@ -17,7 +17,7 @@ use Rattle.tables.specs.Algebras.{tables}
 use Rattle.tables.specs.Definitions.{Pair}
 use Rattle.decisions.specs.Decisions.{Walked, stopped, walked, newest, walk, commandsIn, pairsFault}
 use Rattle.entries.specs.declared.Carry.{Carry}
-use Rattle.entries.specs.Carries.{Entry, Kept}
+use Rattle.entries.specs.Carries.{Entry}
 use Rattle.leaves.specs.declared.Tables.{Tables}
 use Rattle.leaves.specs.Leaves.{tableAlgebra}
 use Rattle.maps.specs.Maps.{batchedTable, Small}

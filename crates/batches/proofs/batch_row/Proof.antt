@@ -1,21 +1,18 @@
 -- `batches::batch_row`: the subsets are made behind the first two words, which are written then.
 use mathlib.Core.Path.{_≡_}
 use mathlib.Core.List.{_∷_}
-use Prim.Native.Nat.{ℕ, _+_, _-_, _≤_}
+use Prim.Native.Nat.{_+_, _-_}
 use native.Mathlib.Omega.{arith}
 use lib.ListN.{length, take, getD, length-set}
 use borrow.Rule.Slice.PartMut.{putMid, same-len-mid}
 use Rattle.labels.specs.Labels.{labelCount}
-use Rattle.candidates.specs.Candidates.{pairOf, Readable}
+use Rattle.candidates.specs.Candidates.{pairOf}
 use Rattle.candidates.proofs.Making.{no-more}
 use Rattle.batches.specs.Batches.{commandsOf, batchPair}
 use Rattle.batches.proofs.Gathering.{written-pair}
 use borrow.Author.Needs.{needs}
 use Rattle.batches.proofs.batch_row.Statement.{statement}
 use Rattle.batches.proofs.batch_row.Tie as tie
-use Rattle.batches.proofs.batch_row.Reads as reads
-use Rattle.batches.proofs.batch_row.Lts as lts
-use Rattle.batches.proofs.batch_subsets.Reads as batch-subsets-reads
 
 abbrev start : tie.After-batch-subsets → tie.Start
 start c = c .before .before .before .before .before .before .before .before
@@ -27,65 +24,50 @@ long c = same-len-mid 2 (length (start c .args .row .now) - 2) (start c .args .r
 shared-slice-read-q : tie.Need-shared-slice-read-q
 shared-slice-read-q c = search needs
 
--- src/lib.rt:132:13
 shared-slice-read-n : tie.Need-shared-slice-read-n
 shared-slice-read-n c = search needs
 
--- src/lib.rt:132:13
 cast-n : tie.Need-cast-n
 cast-n c = search needs
 
--- src/lib.rt:133:30
 sub-batch-subsets : tie.Need-sub-batch-subsets
 sub-batch-subsets c = search needs
 
--- src/lib.rt:133:30
 part-batch-subsets-start : tie.Need-part-batch-subsets-start
 part-batch-subsets-start c = search needs
 
--- src/lib.rt:133:30
 part-batch-subsets-end : tie.Need-part-batch-subsets-end
 part-batch-subsets-end c = search needs
 
--- src/lib.rt:133:53
 add-batch-subsets : tie.Need-add-batch-subsets
 add-batch-subsets c = search needs
 
--- src/lib.rt:133:45
 sub-batch-subsets-2 : tie.Need-sub-batch-subsets-2
 sub-batch-subsets-2 c = search needs
 
--- src/lib.rt:133:45
 part-batch-subsets-start-2 : tie.Need-part-batch-subsets-start-2
 part-batch-subsets-start-2 c = search needs
 
--- src/lib.rt:133:45
 part-batch-subsets-end-2 : tie.Need-part-batch-subsets-end-2
 part-batch-subsets-end-2 c = search needs
 
--- src/lib.rt:133:9
 batch-subsets-requires : tie.Need-batch-subsets-requires
 batch-subsets-requires c κs = search needs
 
--- src/lib.rt:134:5
 slice-write-row : tie.Need-slice-write-row
 slice-write-row c = search needs
 
--- src/lib.rt:135:14
 cast-row : tie.Need-cast-row
 cast-row c = search needs
 
--- src/lib.rt:135:5
 slice-write-row-2 : tie.Need-slice-write-row-2
 slice-write-row-2 c =
     let u = c .before .before .before in
     simp length-set (omega (arith, long u, start u .pre))
 
--- src/lib.rt:126:1
 same-length : tie.Need-same-length
 same-length c = search needs
 
--- src/lib.rt:126:1
 -- the pair that the slice of the subsets and the own triple make
 made : (c : tie.After-batch-subsets) → c .batch-subsets .result .own ∷ take (c .batch-subsets .result .count) (c .batch-subsets .last .0) ≡ batchPair labelCount (commandsOf (start c .args .ops .now)) (pairOf (start c .args .src .now))
 unfolding pairOf

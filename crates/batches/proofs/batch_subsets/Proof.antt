@@ -1,6 +1,5 @@
 -- `batches::batch_subsets`: the triples are copied, stepped where they stand, and put in order.
-use mathlib.Core.Path.{_≡_, refl, sym}
-use Prim.Native.Nat.{ℕ, _≤_}
+use mathlib.Core.Path.{refl, sym}
 use native.Mathlib.Omega.{arith}
 use lib.ListN.{length}
 use lib.Seq.{length-take-le}
@@ -9,40 +8,28 @@ use Rattle.batches.proofs.Gathering.{made-pair}
 use borrow.Author.Needs.{needs}
 use Rattle.batches.proofs.batch_subsets.Statement.{statement}
 use Rattle.batches.proofs.batch_subsets.Tie as tie
-use Rattle.batches.proofs.batch_subsets.Reads as reads
-use Rattle.batches.proofs.batch_subsets.Lts as lts
-use Rattle.batches.proofs.gather.Reads as gather-reads
-use Rattle.batches.proofs.step_all.Reads as step-all-reads
-use Rattle.rows.proofs.copy_words.Reads as copy-words-reads
 
--- src/lib.rt:119:5
 copy-words-requires : tie.Need-copy-words-requires
 copy-words-requires c κs = search needs
 
--- src/lib.rt:120:24
 slice-relend-prefix-step-all : tie.Need-slice-relend-prefix-step-all
 slice-relend-prefix-step-all c = search needs
 
--- src/lib.rt:120:24
 slice-aggregate-step-all : tie.Need-slice-aggregate-step-all
 slice-aggregate-step-all c =
     let u = c .before .before .before in
     let s = u .before .before .before .before .before in
     sym (length-take-le (length (s .args .src .now)) (u .copy-words .last .0) (omega (arith, u .copy-words .kept .0, s .pre)))
 
--- src/lib.rt:120:9
 step-all-requires : tie.Need-step-all-requires
 step-all-requires c κs = search needs
 
--- src/lib.rt:121:9
 gather-requires : tie.Need-gather-requires
 gather-requires c κs = search needs
 
--- src/lib.rt:114:1
 same-length : tie.Need-same-length
 same-length c = search needs
 
--- src/lib.rt:114:1
 returns : tie.Need-returns
 returns c =
     let g = c .before .before in

@@ -3,26 +3,19 @@ use Rattle.labels.specs.Labels.{labelCount}
 use Rattle.batches.proofs.Steps.{is-rule, is-relabel, is-head, is-positive, is-negative}
 use Rattle.batches.proofs.command_of.Statement.{statement}
 use Rattle.batches.proofs.command_of.Tie as tie
-use Rattle.batches.proofs.command_of.Reads as reads
-use Rattle.batches.proofs.command_of.Lts as lts
 
--- src/lib.rt:33:9
 returns : tie.Need-returns
 returns c = is-rule labelCount _ (c .if1 .taken)
 
--- src/lib.rt:36:9
 returns-2 : tie.Need-returns-2
 returns-2 c = is-relabel labelCount _ (c .before .if1 .left) (c .if2 .taken)
 
--- src/lib.rt:39:9
 returns-3 : tie.Need-returns-3
 returns-3 c = is-head labelCount _ (c .before .before .if1 .left) (c .before .if2 .left) (c .if3 .taken)
 
--- src/lib.rt:42:9
 returns-4 : tie.Need-returns-4
 returns-4 c = is-positive labelCount _ (c .before .before .before .if1 .left) (c .before .before .if2 .left) (c .before .if3 .left) (c .if4 .taken)
 
--- src/lib.rt:26:1
 returns-5 : tie.Need-returns-5
 returns-5 c = is-negative labelCount _ (c .before .before .before .if1 .left) (c .before .before .if2 .left) (c .before .if3 .left) (c .if4 .left)
 

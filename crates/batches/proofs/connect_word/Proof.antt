@@ -1,87 +1,67 @@
 -- `batches::connect_word`: by the kind.
-use mathlib.Core.Path.{_≡_, refl, sym, ap, _∙_}
+use mathlib.Core.Path.{refl, sym, ap, _∙_}
 use Rattle.expression.specs.declared.Kind.{Kind}
 use Rattle.expression.specs.declared.Command.the-variants.{Connect}
 use Rattle.batches.proofs.Steps.{head-word, positive-word, negative-word}
 use borrow.Author.Needs.{needs}
 use Rattle.batches.proofs.connect_word.Statement.{statement}
 use Rattle.batches.proofs.connect_word.Tie as tie
-use Rattle.batches.proofs.connect_word.Reads as reads
-use Rattle.batches.proofs.connect_word.Lts as lts
 
--- src/lib.rt:54:24
 enum-told : tie.Need-enum-told
 enum-told c = search needs
 
--- src/lib.rt:54:24
 mul-result : tie.Need-mul-result
 mul-result c = search needs
 
--- src/lib.rt:54:24
 add-result : tie.Need-add-result
 add-result c = search needs
 
--- src/lib.rt:54:23
 mul-result-2 : tie.Need-mul-result-2
 mul-result-2 c = search needs
 
--- src/lib.rt:54:23
 add-result-2 : tie.Need-add-result-2
 add-result-2 c = search needs
 
--- src/lib.rt:55:28
 enum-told-2 : tie.Need-enum-told-2
 enum-told-2 c = search needs
 
--- src/lib.rt:55:28
 mul-result-3 : tie.Need-mul-result-3
 mul-result-3 c = search needs
 
--- src/lib.rt:55:28
 add-result-3 : tie.Need-add-result-3
 add-result-3 c = search needs
 
--- src/lib.rt:55:27
 mul-result-4 : tie.Need-mul-result-4
 mul-result-4 c = search needs
 
--- src/lib.rt:55:27
 add-result-4 : tie.Need-add-result-4
 add-result-4 c = search needs
 
--- src/lib.rt:56:28
 enum-told-3 : tie.Need-enum-told-3
 enum-told-3 c = search needs
 
--- src/lib.rt:56:28
 mul-result-5 : tie.Need-mul-result-5
 mul-result-5 c = search needs
 
--- src/lib.rt:56:28
 add-result-5 : tie.Need-add-result-5
 add-result-5 c = search needs
 
--- src/lib.rt:56:27
 mul-result-6 : tie.Need-mul-result-6
 mul-result-6 c = search needs
 
--- src/lib.rt:56:27
 add-result-6 : tie.Need-add-result-6
 add-result-6 c = search needs
 
--- src/lib.rt:49:1
 returns : tie.Need-returns
 returns c =
     let s = c .before .before in
     head-word (s .args .i) (s .args .j) _ (s .pre .0) (s .pre .1) refl ∙ ap (λ (k : Kind). Connect k (s .args .i) (s .args .j)) (sym (c .enum-told .given .1))
 
--- src/lib.rt:49:1
 returns-2 : tie.Need-returns-2
 returns-2 c =
     let s = c .before .before in
     positive-word (s .args .i) (s .args .j) _ (s .pre .0) (s .pre .1) refl ∙ ap (λ (k : Kind). Connect k (s .args .i) (s .args .j)) (sym (c .enum-told2 .given .1))
 
--- src/lib.rt:49:1
 returns-3 : tie.Need-returns-3
 returns-3 c =
     let s = c .before .before in

@@ -1,9 +1,9 @@
 -- `batches::step_all`: the commands left, on the triples at hand, lead to what all of them make.
 use mathlib.Core.Path.{_≡_, refl, sym, _∙_, subst}
-use mathlib.Core.List.{List, [], _∷_}
-use Prim.Native.Nat.{ℕ, _+_, _-_, _≤_, _<_}
+use mathlib.Core.List.{_∷_}
+use Prim.Native.Nat.{_-_, _≤_}
 use native.Mathlib.Omega.{arith}
-use lib.ListN.{length, drop, drop-of-length-le}
+use lib.ListN.{length, drop}
 use Rattle.labels.specs.Labels.{labelCount}
 use Rattle.expression.specs.Commands.{Suits}
 use Rattle.batches.specs.Batches.{commandsOf, steps}
@@ -11,11 +11,6 @@ use Rattle.batches.proofs.Steps.{suits-word, next-step, no-steps}
 use borrow.Author.Needs.{needs}
 use Rattle.batches.proofs.step_all.Statement.{statement}
 use Rattle.batches.proofs.step_all.Tie as tie
-use Rattle.batches.proofs.step_all.Reads as reads
-use Rattle.batches.proofs.step_all.Lts as lts
-use Rattle.batches.proofs.command_of.Reads as command-of-reads
-use Rattle.batches.proofs.step_triple.Reads as step-triple-reads
-use Rattle.batches.proofs.step_words.Reads as step-words-reads
 
 abbrev Inv-loop : tie.InvT-loop
 Inv-loop run₀ q ops own₀ k₀ run own k =
@@ -24,39 +19,30 @@ Inv-loop run₀ q ops own₀ k₀ run own k =
 abbrev μ-loop : tie.MeasureT-loop
 μ-loop run₀ q ops own₀ k₀ run own k = length ops - k
 
--- src/lib.rt:89:5
 loop-holds : tie.Need-loop-holds Inv-loop μ-loop
 loop-holds c = (omega arith, refl, refl)
 
--- src/lib.rt:90:28
 mul-command-of : tie.Need-mul-command-of Inv-loop μ-loop
 mul-command-of c = omega arith
 
--- src/lib.rt:90:28
 shared-slice-read-command-of : tie.Need-shared-slice-read-command-of Inv-loop μ-loop
 shared-slice-read-command-of c = omega arith
 
--- src/lib.rt:90:13
 command-of-requires : tie.Need-command-of-requires Inv-loop μ-loop
 command-of-requires c κs = search needs
 
--- src/lib.rt:91:9
 step-words-requires : tie.Need-step-words-requires Inv-loop μ-loop
 step-words-requires c κs = subst (Suits labelCount) (sym (c .before .command-of .ensures)) (suits-word labelCount (omega arith) _)
 
--- src/lib.rt:92:9
 step-triple-requires : tie.Need-step-triple-requires Inv-loop μ-loop
 step-triple-requires c κs = subst (Suits labelCount) (sym (c .before .before .before .before .command-of .ensures)) (suits-word labelCount (omega arith) _)
 
--- src/lib.rt:93:9
 add-k : tie.Need-add-k Inv-loop μ-loop
 add-k c = omega arith
 
--- src/lib.rt:89:5
 loop-less : tie.Need-loop-less Inv-loop μ-loop
 loop-less c = omega arith
 
--- src/lib.rt:89:5
 loop-again : tie.Need-loop-again Inv-loop μ-loop
 loop-again c =
     let u = c .before .before .before in
@@ -66,11 +52,9 @@ loop-again c =
     let q = k .loop .inv in
     (omega (arith, d .before .before .loop-test .taken), u .step-words .kept .0 ∙ q .1, next-step _ (s .args .ops .now) (k .loop .k) (d .before .before .loop-test .taken) (k .loop .own) (k .loop .run) (q .2) (d .command-of .result) (d .command-of .ensures) _ _ (c .step-triple .ensures) (u .step-words .ensures))
 
--- src/lib.rt:84:1
 same-length : tie.Need-same-length Inv-loop μ-loop
 same-length c = c .before .loop .inv .1
 
--- src/lib.rt:84:1
 returns : tie.Need-returns Inv-loop μ-loop
 returns c =
     let k = c .before in

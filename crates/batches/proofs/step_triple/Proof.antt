@@ -5,60 +5,43 @@ use Rattle.batches.proofs.Steps.{rule-label, rule-steps, relabel-steps,
 use borrow.Author.Needs.{needs}
 use Rattle.batches.proofs.step_triple.Statement.{statement}
 use Rattle.batches.proofs.step_triple.Tie as tie
-use Rattle.batches.proofs.step_triple.Reads as reads
-use Rattle.batches.proofs.step_triple.Lts as lts
-use Rattle.batches.proofs.with_rule.Reads as with-rule-reads
-use Rattle.candidates.proofs.map_triple.Reads as map-triple-reads
 
--- src/lib.rt:61:23
 enum-known-c : tie.Need-enum-known-c
 enum-known-c c = search needs
 
--- src/lib.rt:61:29
 with-rule-requires : tie.Need-with-rule-requires
 with-rule-requires c κs = rule-label labelCount _ (c .before .c .given .1) (c .before .before .before .pre)
 
--- src/lib.rt:62:35
 enum-told : tie.Need-enum-told
 enum-told c = search needs
 
--- src/lib.rt:62:35
 map-triple-requires : tie.Need-map-triple-requires
 map-triple-requires c κs = search needs
 
--- src/lib.rt:63:38
 enum-told-2 : tie.Need-enum-told-2
 enum-told-2 c = search needs
 
--- src/lib.rt:63:38
 map-triple-requires-2 : tie.Need-map-triple-requires-2
 map-triple-requires-2 c κs = search needs
 
--- src/lib.rt:64:29
 enum-told-3 : tie.Need-enum-told-3
 enum-told-3 c = search needs
 
--- src/lib.rt:65:27
 enum-told-4 : tie.Need-enum-told-4
 enum-told-4 c = search needs
 
--- src/lib.rt:56:1
 returns : tie.Need-returns
 returns c = c .with-rule .ensures ∙ rule-steps labelCount _ _ _ _ (c .before .before .c .given .1)
 
--- src/lib.rt:56:1
 returns-2 : tie.Need-returns-2
 returns-2 c = c .map-triple .ensures ∙ relabel-steps labelCount _ _ _ _ _ (c .before .enum-told .given .1)
 
--- src/lib.rt:56:1
 returns-3 : tie.Need-returns-3
 returns-3 c = c .map-triple2 .ensures ∙ connect-steps labelCount _ _ _ _ _ _ (c .before .enum-told2 .given .1)
 
--- src/lib.rt:56:1
 returns-4 : tie.Need-returns-4
 returns-4 c = atom-steps labelCount _ _ _ _ (c .enum-told3 .given .1)
 
--- src/lib.rt:56:1
 returns-5 : tie.Need-returns-5
 returns-5 c = union-steps labelCount _ _ _ (c .enum-told4 .given .1)
 

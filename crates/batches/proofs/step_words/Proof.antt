@@ -1,7 +1,7 @@
 -- `batches::step_words`: below i the words are mapped.
 use mathlib.Core.Path.{_≡_, refl, sym, ap, _∙_}
 use mathlib.Core.List.{List, map}
-use Prim.Native.Nat.{ℕ, _+_, _-_, _≤_, _<_}
+use Prim.Native.Nat.{ℕ, _-_, _≤_, _<_}
 use native.Mathlib.Omega.{arith}
 use lib.ListN.{length, getD, length-set, length-map}
 use Rattle.labels.specs.Labels.{labelCount}
@@ -10,9 +10,6 @@ use Rattle.batches.specs.Batches.{stepTriple}
 use Rattle.batches.proofs.Steps.{map-read}
 use Rattle.batches.proofs.step_words.Statement.{statement}
 use Rattle.batches.proofs.step_words.Tie as tie
-use Rattle.batches.proofs.step_words.Reads as reads
-use Rattle.batches.proofs.step_words.Lts as lts
-use Rattle.batches.proofs.step_triple.Reads as step-triple-reads
 
 abbrev Inv-loop : tie.InvT-loop
 Inv-loop run₀ c q i₀ run i =
@@ -21,39 +18,30 @@ Inv-loop run₀ c q i₀ run i =
 abbrev μ-loop : tie.MeasureT-loop
 μ-loop run₀ c q i₀ run i = length run₀ - i
 
--- src/lib.rt:75:5
 loop-holds : tie.Need-loop-holds Inv-loop μ-loop
 loop-holds c = (omega arith, refl, refl)
 
--- src/lib.rt:76:17
 mul-x : tie.Need-mul-x Inv-loop μ-loop
 mul-x c = omega arith
 
--- src/lib.rt:76:17
 slice-read-x : tie.Need-slice-read-x Inv-loop μ-loop
 slice-read-x c = omega arith
 
--- src/lib.rt:77:13
 step-triple-requires : tie.Need-step-triple-requires Inv-loop μ-loop
 step-triple-requires c κs = search
 
--- src/lib.rt:78:9
 mul-run : tie.Need-mul-run Inv-loop μ-loop
 mul-run c = omega arith
 
--- src/lib.rt:78:9
 slice-write-run : tie.Need-slice-write-run Inv-loop μ-loop
 slice-write-run c = omega arith
 
--- src/lib.rt:79:9
 add-i : tie.Need-add-i Inv-loop μ-loop
 add-i c = omega arith
 
--- src/lib.rt:75:5
 loop-less : tie.Need-loop-less Inv-loop μ-loop
 loop-less c = omega arith
 
--- src/lib.rt:75:5
 loop-again : tie.Need-loop-again Inv-loop μ-loop
 loop-again c =
     let k = c .before .before .before in
@@ -66,11 +54,9 @@ loop-again c =
     let l : i < length b = omega (arith, c .before .before .loop-test .taken, q .1) in
     (omega (arith, l), simp length-set (q .1), rw (q .2) (mix-more i _ (map f b) b (omega (arith, n, l)) l (map-read f b i l ∙ ap f (sym (ap (λ (u : List ℕ). getD u i 0) (q .2) ∙ mix-get-high i i (map f b) b (omega arith) (omega (arith, n, l)) (omega (arith, l)))) ∙ sym (c .step-triple .ensures))))
 
--- src/lib.rt:70:1
 same-length : tie.Need-same-length Inv-loop μ-loop
 same-length c = omega arith
 
--- src/lib.rt:70:1
 returns : tie.Need-returns Inv-loop μ-loop
 returns c =
     let k = c .before in

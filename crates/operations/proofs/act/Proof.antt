@@ -3,14 +3,8 @@ use Rattle.semantics.specs.AnswerSets.{byMasks}
 use Rattle.leaves.proofs.Writing.{wide-two}
 use Rattle.operations.proofs.Dispatch.{acts-as, atom-acts, rule-acts, union-acts, relabel-acts, connect-acts, atom-meets, rule-meets, union-meets, relabel-meets, connect-meets, relabel-joins, connect-joins}
 use borrow.Author.Needs.{needs}
-use native.Mathlib.Omega.{arith}
-use borrow.Author.Needs.{needs}
 use Rattle.operations.proofs.act.Statement.{statement}
 use Rattle.operations.proofs.act.Tie as tie
-use Rattle.operations.proofs.map_by.Reads as map-by-reads
-use Rattle.operations.proofs.push_atom.Reads as push-atom-reads
-use Rattle.operations.proofs.push_rule.Reads as push-rule-reads
-use Rattle.operations.proofs.unite_newest.Reads as unite-newest-reads
 
 enum-known-c : tie.Need-enum-known-c
 enum-known-c c = search needs

@@ -1,6 +1,6 @@
 -- `operations::map_by`: a batch of one command.
-use mathlib.Core.Path.{_≡_, ap}
-use mathlib.Core.List.{List, [], _∷_}
+use mathlib.Core.Path.{ap}
+use mathlib.Core.List.{[], _∷_}
 use Rattle.expression.specs.declared.Command.{Command}
 use Rattle.semantics.specs.Expressions.{changeNewest}
 use Rattle.maps.specs.Maps.{batchedTable}
@@ -8,44 +8,31 @@ use Rattle.operations.proofs.Dispatch.{acts-as}
 use borrow.Author.Needs.{needs}
 use Rattle.operations.proofs.map_by.Statement.{statement}
 use Rattle.operations.proofs.map_by.Tie as tie
-use Rattle.operations.proofs.map_by.Reads as reads
-use Rattle.operations.proofs.map_by.Lts as lts
-use Rattle.batches.proofs.word_of.Reads as word-of-reads
-use Rattle.operations.proofs.map_newest.Reads as map-newest-reads
 
--- src/lib.rt:144:9
 word-of-requires : tie.Need-word-of-requires
 word-of-requires c κs = search needs
 
--- src/lib.rt:146:66
 slice-aggregate-map-newest : tie.Need-slice-aggregate-map-newest
 slice-aggregate-map-newest c = search needs
 
--- src/lib.rt:146:5
 map-newest-requires : tie.Need-map-newest-requires
 map-newest-requires c κs = let s = c .before .before .before .before .before .before .before .before .before .before .before .before in (s .pre .0, ((s .pre .1 .0 .0, s .pre .1 .0 .1), s .pre .1 .1))
 
--- src/lib.rt:125:1
 same-length : tie.Need-same-length
 same-length c = search needs
 
--- src/lib.rt:125:1
 same-length-2 : tie.Need-same-length-2
 same-length-2 c = search needs
 
--- src/lib.rt:125:1
 same-length-3 : tie.Need-same-length-3
 same-length-3 c = search needs
 
--- src/lib.rt:125:1
 same-length-4 : tie.Need-same-length-4
 same-length-4 c = search needs
 
--- src/lib.rt:125:1
 same-length-5 : tie.Need-same-length-5
 same-length-5 c = search needs
 
--- src/lib.rt:125:1
 returns : tie.Need-returns
 returns c =
     let u = c .before .before .before .before .before .before .before .before .before .before in

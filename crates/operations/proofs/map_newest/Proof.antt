@@ -1,22 +1,16 @@
 -- `operations::map_newest`: the newest table is mapped and its values moved to its place.
-use mathlib.Core.Path.{_≡_, refl, sym, ap, _∙_, subst}
-use mathlib.Core.List.{List}
+use mathlib.Core.Path.{refl}
 use Prim.Native.Nat.{ℕ, _+_, _-_, _*_, _≤_, _<_}
-use lib.ListN.{length, take, drop}
+use lib.ListN.{length}
 use Rattle.rows.proofs.Tables.{row-within}
 use Rattle.batches.specs.Batches.{commandsOf}
-use Rattle.workspace.specs.Workspace.{valuesFrom}
 use Rattle.operations.specs.Operations.{Loaded}
-use Rattle.operations.proofs.Loads.{rest-is, beside-room, start-within, beside-rest, below, inside, area-behind, scratch-zero, newer-stands, Stands, stands-rows, stands-few}
+use Rattle.operations.proofs.Loads.{rest-is, beside-room, start-within, beside-rest, below, inside, scratch-zero, newer-stands, stands-rows, stands-few}
 use Rattle.operations.proofs.Mapping.{mapped-acted}
 use borrow.Author.Needs.{needs}
 use native.Mathlib.Omega.{arith}
-use borrow.Author.Needs.{needs}
 use Rattle.operations.proofs.map_newest.Statement.{statement}
 use Rattle.operations.proofs.map_newest.Tie as tie
-use Rattle.maps.proofs.map_table.Reads as map-table-reads
-use Rattle.operations.proofs.values_from.Reads as values-from-reads
-use Rattle.workspace.proofs.move_values.Reads as move-values-reads
 
 abbrev held : (s : tie.Start) → Loaded (s .args .carry) (s .args .d) (s .args .w) (s .args .p) (s .args .t) (s .args .n) (s .pre .1 .1 .1 .0) (s .pre .1 .1 .1 .1 .0) (s .pre .1 .1 .1 .1 .1) (s .args .ws .now) (s .args .vals .now)
 held s = s .pre .1 .1 .1 .1 .2

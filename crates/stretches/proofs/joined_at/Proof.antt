@@ -5,74 +5,55 @@ use Rattle.stretches.proofs.Reading.{relabel-spelt, connect-spelt, rule
 use borrow.Author.Needs.{needs}
 use Rattle.stretches.proofs.joined_at.Statement.{statement}
 use Rattle.stretches.proofs.joined_at.Tie as tie
-use Rattle.stretches.proofs.joined_at.Reads as reads
-use Rattle.stretches.proofs.joined_at.Lts as lts
-use Rattle.commands.proofs.reading.read_at.Reads as read-at-reads
-use Rattle.stretches.proofs.with_union.Reads as with-union-reads
 
--- src/lib.rt:54:9
 read-at-requires : tie.Need-read-at-requires
 read-at-requires c κs = search needs
 
--- src/lib.rt:55:23
 enum-known-r : tie.Need-enum-known-r
 enum-known-r c = search needs
 
--- src/lib.rt:56:9
 enum-told : tie.Need-enum-told
 enum-told c = search needs
 
--- src/lib.rt:56:9
 returns : tie.Need-returns
 returns c = search needs
 
--- src/lib.rt:59:23
 enum-known-c : tie.Need-enum-known-c
 enum-known-c c = search needs
 
--- src/lib.rt:59:29
 with-union-requires : tie.Need-with-union-requires
 with-union-requires c κs = search needs
 
--- src/lib.rt:60:35
 enum-told-2 : tie.Need-enum-told-2
 enum-told-2 c = search needs
 
--- src/lib.rt:61:38
 enum-told-3 : tie.Need-enum-told-3
 enum-told-3 c = search needs
 
--- src/lib.rt:62:29
 enum-told-4 : tie.Need-enum-told-4
 enum-told-4 c = search needs
 
--- src/lib.rt:63:27
 enum-told-5 : tie.Need-enum-told-5
 enum-told-5 c = search needs
 
--- src/lib.rt:51:1
 returns-2 : tie.Need-returns-2
 returns-2 c =
     let r = c .before .before .before .before .before in
     c .with-union .ensures _ (rule-read labelCount _ 0 _ _ _ (sym (r .before .before .read-at .ensures) ∙ r .r .given .1) (c .before .before .c .given .1))
 
--- src/lib.rt:51:1
 returns-3 : tie.Need-returns-3
 returns-3 c =
     let r = c .before .before .before in
     relabel-spelt labelCount _ _ _ _ _ (sym (r .before .before .read-at .ensures) ∙ r .r .given .1) (c .enum-told2 .given .1)
 
--- src/lib.rt:51:1
 returns-4 : tie.Need-returns-4
 returns-4 c =
     let r = c .before .before .before in
     connect-spelt labelCount _ _ _ _ _ (sym (r .before .before .read-at .ensures) ∙ r .r .given .1) (c .enum-told3 .given .1)
 
--- src/lib.rt:51:1
 returns-5 : tie.Need-returns-5
 returns-5 c = search needs
 
--- src/lib.rt:51:1
 returns-6 : tie.Need-returns-6
 returns-6 c = search needs
 

@@ -3,55 +3,40 @@ use Rattle.stretches.proofs.Reading.{rule-counts, atom-counts, union-co
 use borrow.Author.Needs.{needs}
 use Rattle.stretches.proofs.joined_counts.Statement.{statement}
 use Rattle.stretches.proofs.joined_counts.Tie as tie
-use Rattle.stretches.proofs.joined_counts.Reads as reads
-use Rattle.stretches.proofs.joined_counts.Lts as lts
-use Rattle.commands.proofs.counting.counted.Reads as counted-reads
 
--- src/lib.rt:71:9
 counted-requires : tie.Need-counted-requires
 counted-requires c κs = search needs
 
--- src/lib.rt:73:40
 enum-told : tie.Need-enum-told
 enum-told c = search needs
 
--- src/lib.rt:73:29
 counted-requires-2 : tie.Need-counted-requires-2
 counted-requires-2 c κs = search needs
 
--- src/lib.rt:74:29
 enum-told-2 : tie.Need-enum-told-2
 enum-told-2 c = search needs
 
--- src/lib.rt:75:27
 enum-told-3 : tie.Need-enum-told-3
 enum-told-3 c = search needs
 
--- src/lib.rt:76:35
 enum-told-4 : tie.Need-enum-told-4
 enum-told-4 c = search needs
 
--- src/lib.rt:77:38
 enum-told-5 : tie.Need-enum-told-5
 enum-told-5 c = search needs
 
--- src/lib.rt:68:1
 returns : tie.Need-returns
 returns c = rule-counts _ _ _ (c .before .before .before .counted .ensures) (c .before .enum-told .given .1) (c .counted2 .ensures)
 
--- src/lib.rt:68:1
 returns-2 : tie.Need-returns-2
 returns-2 c = atom-counts _ _ _ (c .before .before .counted .ensures) (c .enum-told2 .given .1)
 
--- src/lib.rt:68:1
 returns-3 : tie.Need-returns-3
 returns-3 c = union-counts _ _ _ (c .before .before .counted .ensures) (c .enum-told3 .given .1)
 
--- src/lib.rt:68:1
 returns-4 : tie.Need-returns-4
 returns-4 c = relabel-counts _ _ _ (c .before .before .counted .ensures) (c .enum-told4 .given .1)
 
--- src/lib.rt:68:1
 returns-5 : tie.Need-returns-5
 returns-5 c = connect-counts _ _ _ (c .before .before .counted .ensures) (c .enum-told5 .given .1)
 

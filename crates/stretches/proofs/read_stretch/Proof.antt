@@ -1,11 +1,9 @@
 -- `stretches::read_stretch`: the words written so far stand for the commands passed.
 use mathlib.Core.Path.{_≡_, refl, sym, ap, _∙_, subst}
-use mathlib.Core.List.{List, [], _∷_, _++_}
-use Prim.Native.Nat.{ℕ, _+_, _-_, _≤_, _<_}
+use Prim.Native.Nat.{_-_, _≤_}
 use native.Mathlib.Omega.{arith}
 use lib.ListN.{length, take, length-set}
 use Rattle.labels.specs.Labels.{labelCount}
-use Rattle.expression.specs.declared.Command.{Command}
 use Rattle.expression.specs.declared.Counts.{Counts}
 use Rattle.batches.specs.Batches.{commandsOf}
 use Rattle.stretches.specs.Stretches.{Spelt, SpeltBy, Chain, joinedCounts, chainCounts}
@@ -13,11 +11,6 @@ use Rattle.stretches.proofs.Reading.{spelt-suits, spelt-joins, chain-mo
 use borrow.Author.Needs.{needs}
 use Rattle.stretches.proofs.read_stretch.Statement.{statement}
 use Rattle.stretches.proofs.read_stretch.Tie as tie
-use Rattle.stretches.proofs.read_stretch.Reads as reads
-use Rattle.stretches.proofs.read_stretch.Lts as lts
-use Rattle.batches.proofs.word_of.Reads as word-of-reads
-use Rattle.stretches.proofs.joined_at.Reads as joined-at-reads
-use Rattle.stretches.proofs.joined_counts.Reads as joined-counts-reads
 
 abbrev Inv-loop : tie.InvT-loop
 Inv-loop s stop at ops₀ next₀ count₀ counts₀ ops next count counts =
@@ -26,39 +19,30 @@ Inv-loop s stop at ops₀ next₀ count₀ counts₀ ops next count counts =
 abbrev μ-loop : tie.MeasureT-loop
 μ-loop s stop at ops₀ next₀ count₀ counts₀ ops next count counts = length ops₀ - count
 
--- src/lib.rt:88:5
 loop-holds : tie.Need-loop-holds Inv-loop μ-loop
 loop-holds c = (omega arith, refl, chain-none labelCount _ _ _, counts-none _)
 
--- src/lib.rt:90:13
 same-length : tie.Need-same-length Inv-loop μ-loop
 same-length c = c .before .before .loop .inv .1
 
--- src/lib.rt:90:13
 returns : tie.Need-returns Inv-loop μ-loop
 returns c = let q = c .before .before .loop .inv in (q .0, q .2, q .3)
 
--- src/lib.rt:92:13
 joined-at-requires : tie.Need-joined-at-requires Inv-loop μ-loop
 joined-at-requires c κs = search needs
 
--- src/lib.rt:93:24
 enum-known-j : tie.Need-enum-known-j Inv-loop μ-loop
 enum-known-j c = search needs
 
--- src/lib.rt:94:13
 enum-told : tie.Need-enum-told Inv-loop μ-loop
 enum-told c = search needs
 
--- src/lib.rt:94:13
 same-length-2 : tie.Need-same-length-2 Inv-loop μ-loop
 same-length-2 c = c .before .before .before .before .before .loop .inv .1
 
--- src/lib.rt:94:13
 returns-2 : tie.Need-returns-2 Inv-loop μ-loop
 returns-2 c = let q = c .before .before .before .before .before .loop .inv in (q .0, q .2, q .3)
 
--- src/lib.rt:96:22
 -- the command that was read
 module _ (c : tie.After-known-told Inv-loop μ-loop) where
   abbrev at-loop : tie.At-loop Inv-loop μ-loop
@@ -73,27 +57,21 @@ module _ (c : tie.After-known-told Inv-loop μ-loop) where
 word-of-requires : tie.Need-word-of-requires Inv-loop μ-loop
 word-of-requires c κs = (spelt-suits labelCount (start c .args .s .now) (start c .args .stop) (at-loop c .loop .next) _ (c .before .j .given .0 .0) (spelt c), spelt-joins labelCount (start c .args .s .now) (start c .args .stop) (at-loop c .loop .next) _ (c .before .j .given .0 .0) (spelt c))
 
--- src/lib.rt:96:9
 mul-ops : tie.Need-mul-ops Inv-loop μ-loop
 mul-ops c = omega arith
 
--- src/lib.rt:96:9
 slice-write-ops : tie.Need-slice-write-ops Inv-loop μ-loop
 slice-write-ops c = omega arith
 
--- src/lib.rt:97:9
 joined-counts-requires : tie.Need-joined-counts-requires Inv-loop μ-loop
 joined-counts-requires c κs = search needs
 
--- src/lib.rt:98:9
 add-count : tie.Need-add-count Inv-loop μ-loop
 add-count c = omega arith
 
--- src/lib.rt:88:5
 loop-less : tie.Need-loop-less Inv-loop μ-loop
 loop-less c = omega arith
 
--- src/lib.rt:88:5
 loop-again : tie.Need-loop-again Inv-loop μ-loop
 loop-again c =
     let d = c .before .before in
@@ -108,11 +86,9 @@ loop-again c =
       rw w (c .joined-counts .ensures ∙ ap (λ (n : Counts). joinedCounts n (d .before .j .given .0 .0)) (q .3) ∙ sym (counts-more (s .args .n) (d .before .j .given .0 .0) (commandsOf (take (k .loop .count) (k .loop .ops))))),
     )
 
--- src/lib.rt:82:1
 same-length-3 : tie.Need-same-length-3 Inv-loop μ-loop
 same-length-3 c = c .before .loop .inv .1
 
--- src/lib.rt:82:1
 returns-3 : tie.Need-returns-3 Inv-loop μ-loop
 returns-3 c = let q = c .before .loop .inv in (q .0, q .2, q .3)
 

@@ -16,11 +16,6 @@ use Rattle.walks.proofs.Keeping.{changed-stands}
 use borrow.Author.Needs.{needs}
 use Rattle.walks.proofs.map_ahead.Statement.{statement}
 use Rattle.walks.proofs.map_ahead.Tie as tie
-use Rattle.walks.proofs.map_ahead.Reads as reads
-use Rattle.walks.proofs.map_ahead.Lts as lts
-use Rattle.operations.proofs.map_newest.Reads as map-newest-reads
-use Rattle.stacks.proofs.count_below.Reads as count-below-reads
-use Rattle.stacks.proofs.tally.Reads as tally-reads
 
 -- a stack that stands
 abbrev standing : (s : tie.Start) → Stands (s .args .carry) (depthLimit + 1) (s .args .w) (s .args .p) (s .pre .1 .1 .0) (s .pre .1 .1 .1) (s .args .ws .now) (s .args .vals .now) (s .args .counts .now)
@@ -42,43 +37,34 @@ load c ts beyond h e = loaded h (omega arith) (start c .args .t) e (c .count-bel
 count-below-requires : tie.Need-count-below-requires
 count-below-requires c κs = let s = c .before .before .before .before .before .before .before .before in (omega arith, counts-reach (standing s) (omega arith) (s .args .t) (s .pre .1 .1 .3))
 
--- src/lib.rt:130:9
 map-newest-requires : tie.Need-map-newest-requires
 map-newest-requires c κs =
     let v = c .before .before .before .before .before in
     let s = start v in
     ((s .pre .0 .0, s .pre .0 .1, s .pre .0 .2, omega arith, s .pre .0 .3, s .pre .0 .4), ((s .pre .1 .0 .0, s .pre .1 .0 .1), (s .pre .1 .0 .2, (below v, (s .pre .1 .1 .0, s .pre .1 .1 .1, load v (s .pre .1 .1 .0) (s .pre .1 .1 .1) (standing s) (s .pre .1 .1 .3))))))
 
--- src/lib.rt:131:5
 tally-requires : tie.Need-tally-requires
 unfolding Applies
 tally-requires c κs = let s = start (c .before .before .before .before .before .before .before .before .before .before .before .before .before .before .before .before .before) in (s .pre .1 .0 .2, counts-reach (standing s) (omega arith) (s .args .t) (s .pre .1 .1 .3))
 
--- src/lib.rt:110:1
 same-length : tie.Need-same-length
 same-length c = search needs
 
--- src/lib.rt:110:1
 same-length-2 : tie.Need-same-length-2
 same-length-2 c = search needs
 
--- src/lib.rt:110:1
 same-length-3 : tie.Need-same-length-3
 same-length-3 c = search needs
 
--- src/lib.rt:110:1
 same-length-4 : tie.Need-same-length-4
 same-length-4 c = search needs
 
--- src/lib.rt:110:1
 same-length-5 : tie.Need-same-length-5
 same-length-5 c = search needs
 
--- src/lib.rt:110:1
 same-length-6 : tie.Need-same-length-6
 same-length-6 c = search needs
 
--- src/lib.rt:110:1
 returns : tie.Need-returns
 returns c =
     let y = c .before .before in

@@ -1,9 +1,9 @@
 -- `walks::run_ahead`: the commands are read, and done where there are any.
-use mathlib.Core.Path.{_≡_, refl, sym, ap, _∙_}
+use mathlib.Core.Path.{refl, sym}
 use mathlib.Core.List.{List, []}
-use Prim.Native.Nat.{ℕ, _+_, _≤_, _<_}
+use Prim.Native.Nat.{ℕ, _+_, _≤_}
 use native.Mathlib.Omega.{arith}
-use lib.ListN.{length, take}
+use lib.ListN.{take}
 use lib.Seq.{length-take-le}
 use Rattle.lists.specs.Lists.{All}
 use Rattle.labels.specs.Labels.{labelCount}
@@ -20,12 +20,7 @@ use Rattle.walks.proofs.Stretching.{none-done, some-done, no-words, som
 use borrow.Author.Needs.{needs}
 use Rattle.walks.proofs.run_ahead.Statement.{statement}
 use Rattle.walks.proofs.run_ahead.Tie as tie
-use Rattle.walks.proofs.run_ahead.Reads as reads
-use Rattle.walks.proofs.run_ahead.Lts as lts
-use Rattle.stretches.proofs.read_stretch.Reads as read-stretch-reads
-use Rattle.walks.proofs.map_ahead.Reads as map-ahead-reads
 
--- src/lib.rt:158:9
 abbrev start : tie.After-struct-known → tie.Start
 start c = c .before .before .before .before .before .before .before .before .before
 
@@ -52,61 +47,47 @@ module _ (u : tie.After-read-stretch) where
 returns : tie.Need-returns
 returns c = let s = start (c .before) in (λ ts beyond h e. none-done [] (chain-none labelCount (s .args .s .now) (s .args .stop) (s .args .at)) (counts-none (s .args .n)) (small (c .before) ts beyond h) refl h, s .pre .1 .0 .0)
 
--- src/lib.rt:164:9
 read-stretch-requires : tie.Need-read-stretch-requires
 read-stretch-requires c κs = search needs
 
--- src/lib.rt:166:9
 same-length : tie.Need-same-length
 same-length c = search needs
 
--- src/lib.rt:166:9
 returns-2 : tie.Need-returns-2
 returns-2 c =
     let u = c .before .before .before .before in
     (λ ts beyond h e. none-done (done u) (u .read-stretch .ensures .1) (u .read-stretch .ensures .2) (small (first u) ts beyond h) (no-words (words u) _ (c .if2 .taken)) h, start (first u) .pre .1 .0 .0)
 
--- src/lib.rt:179:9
 slice-reshare-prefix-map-ahead : tie.Need-slice-reshare-prefix-map-ahead
 slice-reshare-prefix-map-ahead c = search needs
 
--- src/lib.rt:179:9
 slice-aggregate-map-ahead : tie.Need-slice-aggregate-map-ahead
 slice-aggregate-map-ahead c = let u = c .before .before .before .before .before .before .before .before .before .before .before in sym (length-take-le _ (words u) (u .read-stretch .ensures .0))
 
--- src/lib.rt:168:5
 map-ahead-requires : tie.Need-map-ahead-requires
 map-ahead-requires c κs = let u = c .before .before .before .before .before .before .before .before .before .before .before in let s = start (first u) in (s .pre .0, ((s .pre .1 .0 .0, s .pre .1 .0 .1, there u), s .pre .1 .1))
 
--- src/lib.rt:135:1
 same-length-2 : tie.Need-same-length-2
 same-length-2 c = search needs
 
--- src/lib.rt:135:1
 same-length-3 : tie.Need-same-length-3
 same-length-3 c = search needs
 
--- src/lib.rt:135:1
 same-length-4 : tie.Need-same-length-4
 same-length-4 c = search needs
 
--- src/lib.rt:135:1
 same-length-5 : tie.Need-same-length-5
 same-length-5 c = search needs
 
--- src/lib.rt:135:1
 same-length-6 : tie.Need-same-length-6
 same-length-6 c = search needs
 
--- src/lib.rt:135:1
 same-length-7 : tie.Need-same-length-7
 same-length-7 c = search needs
 
--- src/lib.rt:135:1
 same-length-8 : tie.Need-same-length-8
 same-length-8 c = search needs
 
--- src/lib.rt:135:1
 returns-3 : tie.Need-returns-3
 returns-3 c =
     let m = c .before .before .before .before .before .before .before .before .before .before .before .before in

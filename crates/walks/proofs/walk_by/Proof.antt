@@ -1,11 +1,10 @@
 -- `walks::walk_by`: what is left of the expression, from the tables at hand, leads to what the whole walk gives.
-use mathlib.Core.Path.{_≡_, refl, sym, ap, _∙_}
+use mathlib.Core.Path.{_≡_, refl, sym, _∙_}
 use mathlib.Core.List.{List, [], map}
 use Prim.Native.Nat.{ℕ, _+_, _-_, _*_, _≤_, _<_}
 use lib.ListN.{length}
 use Rattle.labels.specs.Labels.{labelCount}
 use Rattle.expression.specs.declared.Counts.{Counts}
-use Rattle.expression.specs.declared.Command.{Command}
 use Rattle.expression.specs.declared.Checked.the-variants.{Passed}
 use Rattle.expression.specs.declared.Read.the-variants.{Command as Got}
 use Rattle.expression.specs.Commands.{readAt}
@@ -26,14 +25,6 @@ use borrow.Author.Needs.{needs}
 use native.Mathlib.Omega.{arith}
 use Rattle.walks.proofs.walk_by.Statement.{statement}
 use Rattle.walks.proofs.walk_by.Tie as tie
-use Rattle.walks.proofs.walk_by.Reads as reads
-use Rattle.walks.proofs.walk_by.Lts as lts
-use Rattle.commands.proofs.counting.counted.Reads as counted-reads
-use Rattle.commands.proofs.counting.no_counts.Reads as no-counts-reads
-use Rattle.commands.proofs.reading.read_at.Reads as read-at-reads
-use Rattle.walks.proofs.advance.Reads as advance-reads
-use Rattle.walks.proofs.fault_of.Reads as fault-of-reads
-use Rattle.walks.proofs.run_ahead.Reads as run-ahead-reads
 
 abbrev Inv-loop : tie.InvT-loop
 Inv-loop s stop ws₀ row₀ index₀ made₀ vals₀ counts₀ ops₀ kind carry w p assumed-true assumed-false at₀ n₀ ws row index made vals counts ops at n =
