@@ -194,7 +194,7 @@ fn put(out: &mut [u8], at: usize, x: u8) {
     }
 }
 
-// Of n bytes one changed, or the first few alone; the answer is how many are left.
+// Of n bytes one changed, mostly to a command or a label or near one, or the first few alone; the answer is how many are left.
 fn damage(x: u64, n: usize, out: &mut [u8]) -> usize
     ensures { λ r. ⌜ r ≤ n ⌝ }
 {
@@ -202,12 +202,18 @@ fn damage(x: u64, n: usize, out: &mut [u8]) -> usize
     if at >= n {
         return n;
     }
-    match x % 4 {
-        0 => return at,
-        1 => put(out, at, any_command(x / 512)),
-        _ => put(out, at, (x / 512 % 9) as u8),
+    if x % 4 == 0 {
+        return at;
     }
+    put(out, at, damaged_byte(x / 512));
     n
+}
+
+fn damaged_byte(x: u64) -> u8 {
+    if x % 4 == 0 {
+        return (x / 4 % 72) as u8;
+    }
+    (x / 4 % 9) as u8
 }
 
 // ---- limits and pins

@@ -20,7 +20,7 @@ use expression::refusals::REPORT_SHORT;
 use expression::refusals::SUBSETS_FULL;
 use policies::Policy;
 use policies::no_policy;
-use policies::reading::advance;
+use readings::advance;
 
 // Tables are written at the front of `words`; that of a report stands there at the end.
 pub fn answer(s: &[u8], q: Request, words: &mut [u32; 16512]) -> Answer {

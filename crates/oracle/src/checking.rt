@@ -11,8 +11,8 @@ use expression::refusals::OVERLONG;
 use expression::refusals::UNJOINED;
 use policies::Policy;
 use policies::no_policy;
-use policies::reading::read_to;
 use policies::refused;
+use readings::read_to;
 
 // In place of a refusal: more atoms or rules than are kept.
 pub const LARGE: u64 = 255;

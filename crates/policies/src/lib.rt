@@ -1,7 +1,6 @@
-// What the commands of a sheet build (01, "The sheet"), read byte by byte from the document alone: the oracle's reading, which shares with the engine's
-// only the limits' and refusals' numbers. Proved to stay within bounds and to end; right as far as it is tried.
+// What the commands of a sheet build (01, "The sheet"), from the document alone: what the oracle enumerates. Proved to stay within bounds and to end;
+// right as far as it is tried.
 pub mod building;
-pub mod reading;
 pub mod sets;
 
 // Atoms (01: copies), or rules. The first eight are kept, the others counted.

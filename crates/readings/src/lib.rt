@@ -1,15 +1,15 @@
-// The sheet command by command.
+// A sheet command by command: the oracle's reading, which shares with the engine's only the limits' and refusals' numbers.
 ghost use Prim.Native.Nat.{_+_, _<_, _≤_};
 ghost use lib.ListN.{length};
-use crate::Policy;
-use crate::building::apply;
-use crate::building::fault_of;
-use crate::no_policy;
-use crate::refused;
 use expression::refusals::CUT;
 use expression::refusals::GROUP;
 use expression::refusals::SAME;
 use expression::refusals::UNKNOWN;
+use policies::Policy;
+use policies::building::apply;
+use policies::building::fault_of;
+use policies::no_policy;
+use policies::refused;
 
 // The commands that start before an offset, or those up to the first with a fault.
 pub fn read_to(s: &[u8], end: usize) -> Policy

@@ -1,9 +1,9 @@
--- `reading::read_to` is safe and ends. Assumes nothing.
+-- `read_to` is safe and ends. Assumes nothing.
 use Prim.Native.Nat.{_-_}
 use lib.ListN.{length}
 use borrow.Author.Needs.{needs}
-use Rattle.policies.proofs.reading.read_to.Statement.{statement}
-use Rattle.policies.proofs.reading.read_to.Tie as tie
+use Rattle.readings.proofs.read_to.Statement.{statement}
+use Rattle.readings.proofs.read_to.Tie as tie
 
 abbrev Inv-loop : tie.InvT-loop
 Inv-loop s end p₀ p = Unit {0}
