@@ -6,27 +6,28 @@ use Prim.Native.Nat.{ℕ}
 use Rattle.lists.specs.Lists.{some}
 use Rattle.tables.specs.Definitions.{Pair, accepting, groundedAccepts}
 use Rattle.values.specs.Values.{Total, none, worth, add, sumBy}
-use Rattle.values.specs.First.{firsts, passing}
+use Rattle.values.specs.First.{firsts}
 use Rattle.entries.specs.Carries.{Entry}
+use Rattle.answers.specs.Answers.{leastOf}
 use Rattle.answers.proofs.Leasts.{least-cons}
 
 isWorth : Total ℕ → Bool
 isWorth none = false
 isWorth (worth v) = true
 
-worth-some : (f : Pair → Bool) (xs : List Entry) → isWorth (sumBy firsts (passing f) xs) ≡ some f (map (λ x. x .item) xs)
+worth-some : (f : Pair → Bool) (xs : List Entry) → isWorth (leastOf f xs) ≡ some f (map (λ x. x .item) xs)
 unfolding some isWorth add
 worth-some f [] = unfold sumBy in refl
-worth-some f (x ∷ xs) = ap isWorth (least-cons f x xs) ∙ step (f (x .item)) (sumBy firsts (passing f) xs) ∙ ap (λ b. f (x .item) || b) (worth-some f xs)
+worth-some f (x ∷ xs) = ap isWorth (least-cons f x xs) ∙ step (f (x .item)) (leastOf f xs) ∙ ap (λ b. f (x .item) || b) (worth-some f xs)
   where
-    step : (b : Bool) (t : Total ℕ) → isWorth (add firsts (cond b (worth (x .value)) none) t) ≡ (b || isWorth t)
+    step : (b : Bool) (t : Total ℕ) → isWorth (add firsts (cond b (worth (x .value .low)) none) t) ≡ (b || isWorth t)
     step true none = refl
     step true (worth v) = refl
     step false t = refl
 
 module _ (K : ℕ) (xs : List Entry) where
   abbrev least : Total ℕ
-  least = sumBy firsts (passing (accepting K)) xs
+  least = leastOf (accepting K) xs
 
   abbrev accepts : Bool
   accepts = groundedAccepts K (map (λ x. x .item) xs)

@@ -9,14 +9,14 @@ ghost use Rattle.labels.specs.Labels.{labelCount};
 ghost use Rattle.expression.specs.Limits.{atomLimit};
 ghost use Rattle.tables.specs.Triples.{allMet};
 ghost use Rattle.tables.specs.Definitions.{accepting};
-ghost use Rattle.values.specs.Values.{worth, add, sumBy};
-ghost use Rattle.values.specs.First.{firsts, passing, shownBy};
+ghost use Rattle.values.specs.Values.{worth, add};
+ghost use Rattle.values.specs.First.{firsts, shownBy};
 ghost use Rattle.candidates.specs.Candidates.{pairOf, Readable};
 ghost use Rattle.rows.specs.Parts.{part};
 ghost use Rattle.rows.specs.Rows.{Rows};
 ghost use Rattle.entries.specs.Carries.{Beside};
 ghost use Rattle.making.specs.Making.{entriesAt};
-ghost use Rattle.answers.specs.Answers.{totalOf};
+ghost use Rattle.answers.specs.Answers.{leastOf, totalOf};
 
 // A triple below it has U empty.
 const UNMET: u32 = 1 << (2 * labels::LABELS as u32);
@@ -59,11 +59,11 @@ fn with_value(best: Found, v: u64) -> Found
 {
     match best {
         Found::None => Found::Least(v),
-        Found::Least(u) => Found::Least(entries::either(Carry::First, u, v)),
+        Found::Least(u) => Found::Least(entries::lesser(u, v)),
     }
 }
 
-// The least value of the rows that accept, of the n rows at word a with the values `vals`. With nothing carried, the value of every row is 0.
+// The least value, by its low word, of the rows that accept, of the n rows at word a with the values `vals`. With nothing carried every value is 0.
 pub fn least_accepting(
     ws: &[u32],
     vals: &[u64],
@@ -74,7 +74,7 @@ pub fn least_accepting(
     n: usize,
 ) -> Found
     requires { ⌜ (a + p * w ≤ length (now ws)) × Rows w p n (part a (p * w) (now ws)) × Beside carry n (now vals) ⌝ }
-    ensures { λ r. ⌜ totalOf r ≡ sumBy firsts (passing (accepting labelCount)) (entriesAt carry w p a n (now (vals .entry)) (now (ws .entry))) ⌝ }
+    ensures { λ r. ⌜ totalOf r ≡ leastOf (accepting labelCount) (entriesAt carry w p a n (now (vals .entry)) (now (ws .entry))) ⌝ }
 {
     let mut best = Found::None;
     let mut j = 0;
@@ -82,7 +82,7 @@ pub fn least_accepting(
         let ra = a + j * w;
         if accepts_row(&ws[ra..ra + w]) {
             let v = entries::value_at(vals, carry, n, j);
-            best = with_value(best, v);
+            best = with_value(best, v.low);
         }
         j += 1;
     }

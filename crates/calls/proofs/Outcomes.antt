@@ -1,6 +1,6 @@
 -- What a decision over tables with values answers is the outcome that the definitions ask. Assumes nothing.
 use mathlib.Core.Path.{_≡_, refl, sym, ap, _∙_}
-use mathlib.Core.List.{List}
+use mathlib.Core.List.{List, map}
 use Prim.Native.Nat.{ℕ, _+_, _*_, _≤_}
 use native.Mathlib.Omega.{arith}
 use lib.ListN.{length}
@@ -13,21 +13,28 @@ use Rattle.expression.specs.Limits.{workspaceNeed}
 use Rattle.expression.specs.Checks.{Request, check}
 use Rattle.checks.proofs.Passing.{accepted}
 use Rattle.semantics.specs.AnswerSets.{byMasks}
-use Rattle.tables.specs.Definitions.{pairs, flat}
+use Rattle.tables.specs.Definitions.{pairs, flat, accepting}
+use Rattle.values.specs.Values.{lowered}
 use Rattle.values.specs.First.{firstWords}
 use Rattle.decisions.specs.Decisions.{affirmed, denied, assumed, answer, newest, plain}
 use Rattle.decisions.specs.Outcomes.{GroundedOutcome, PlainOutcome}
-use Rattle.decisions.proofs.Carried.{valuedWalk, grounded-refused, plain-refused, plain-stopped, plain-walked-grounded}
+use Rattle.decisions.proofs.Carried.{mapWalked, newest-map, valuedWalk, low-walk, grounded-refused, plain-refused, plain-stopped, plain-walked-grounded}
+use Rattle.decisions.proofs.Words.{leastIn}
 use Rattle.decisions.proofs.Outcomes.{refused-outcome, plain-outcome, stopped-outcome, yes-outcome, no-outcome}
 use Rattle.entries.specs.declared.Carry.the-variants.{Nothing, First}
-use Rattle.entries.specs.Carries.{carriedBy}
+use Rattle.entries.specs.Carries.{Entry, carriedBy}
 use Rattle.leaves.specs.declared.Tables.the-variants.{Plain, Pairs}
 use Rattle.leaves.specs.Leaves.{algebraOf}
+use Rattle.answers.specs.Answers.{leastOf}
 use Rattle.answers.proofs.Accepting.{none-denies, worth-affirms}
 use Rattle.walks.specs.Walks.{walkTo}
 use Rattle.walks.proofs.Whole.{whole-walk}
 use Rattle.stacks.specs.Stacks.{cleared, wordsAfter}
 use Rattle.engine.specs.Engine.{Decides, shownOutcome, plainOutcome}
+
+-- the least number of the newest table
+newest-low : (us : List (List Entry)) → leastIn labelCount (newest (map (map lowered) us)) ≡ leastOf (accepting labelCount) (newest us)
+newest-low us = ap (leastIn labelCount) (newest-map lowered us)
 
 module _ (a : Request) where
   -- ---- a check refuses
@@ -49,19 +56,20 @@ module _ (a : Request) where
     unfolding wordsAfter
     words-cleared ws = rw (passed, wordsAfter)
 
-    pairs-walk : walkTo Pairs First (byMasks (a .assumedTrue) (a .assumedFalse)) (a .subsetLimit + 2) (a .pairLimit) (length (a .bytes)) (a .bytes)
-        ≡ valuedWalk (pairs labelCount) firstWords (a .subsetLimit) labelCount a
+    pairs-walk : valuedWalk (pairs labelCount) firstWords (a .subsetLimit) labelCount a
+        ≡ mapWalked lowered (walkTo Pairs First (byMasks (a .assumedTrue) (a .assumedFalse)) (a .subsetLimit + 2) (a .pairLimit) (length (a .bytes)) (a .bytes))
     unfolding assumed algebraOf
-    pairs-walk = whole-walk a (accepted a passed .joined) Pairs First (a .subsetLimit + 2) (a .subsetLimit) refl
+    pairs-walk = low-walk (pairs labelCount) firstWords (a .subsetLimit) labelCount a ∙ sym (ap (mapWalked lowered) (whole-walk a (accepted a passed .joined) Pairs First (a .subsetLimit + 2) (a .subsetLimit) refl))
 
     plain-walk : walkTo Plain Nothing (byMasks (a .assumedTrue) (a .assumedFalse)) 2 (a .pairLimit) (length (a .bytes)) (a .bytes) ≡ valuedWalk (flat labelCount) (carriedBy Nothing) 0 labelCount a
     unfolding assumed algebraOf
     plain-walk = whole-walk a (accepted a passed .joined) Plain Nothing 2 0 refl
 
     pub grounded-decided : (o : Outcome) → Decides Pairs First (byMasks (a .assumedTrue) (a .assumedFalse)) (a .subsetLimit + 2) (a .pairLimit) (a .bytes) o → GroundedOutcome labelCount a (shownOutcome (z .atoms) o)
-    grounded-decided (Yes v) (us, e, l) = yes-outcome labelCount a passed (sym pairs-walk ∙ e) v l
-    grounded-decided No (us, e, l) = no-outcome labelCount a passed (sym pairs-walk ∙ e) l
-    grounded-decided (Refused n at) e = stopped-outcome labelCount a passed (sym pairs-walk ∙ e)
+    unfolding mapWalked
+    grounded-decided (Yes v) (us, e, l) = yes-outcome labelCount a passed (pairs-walk ∙ ap (mapWalked lowered) e) v (newest-low us ∙ l)
+    grounded-decided No (us, e, l) = no-outcome labelCount a passed (pairs-walk ∙ ap (mapWalked lowered) e) (newest-low us ∙ l)
+    grounded-decided (Refused n at) e = stopped-outcome labelCount a passed (pairs-walk ∙ ap (mapWalked lowered) e)
 
     pub plain-decided : (o : Outcome) → Decides Plain Nothing (byMasks (a .assumedTrue) (a .assumedFalse)) 2 (a .pairLimit) (a .bytes) o → PlainOutcome labelCount a (plainOutcome o)
     unfolding answer

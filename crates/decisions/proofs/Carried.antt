@@ -20,8 +20,9 @@ use Rattle.tables.specs.Triples.{allMet}
 use Rattle.tables.specs.Definitions.{Pair, ownTriple, subsets, triples, pairs, flat, plainAccepts, accepting, groundedAccepts}
 use Rattle.tables.proofs.Answers.{pairs-lawful}
 use Rattle.tables.proofs.Morphisms.{Homomorphism, act-map, Morphism, tables-map, single, single-morphism}
-use Rattle.values.specs.Values.{Values, Valued, valued}
-use Rattle.values.proofs.Items.{items, item-morphism}
+use Rattle.values.specs.declared.Value.{Value}
+use Rattle.values.specs.Values.{Values, Valued, valued, lowWords, lowered}
+use Rattle.values.proofs.Items.{items, item-morphism, low-morphism}
 use Rattle.decisions.specs.Decisions.{refused, assumed, commandsIn, pairsFault, plainFault, newest, Walked, stopped, walked, walk, answer, conclude, decide, grounded, plain}
 
 -- ---- a walk, carried
@@ -30,7 +31,7 @@ unfoldable pub mapWalked : {X Y : Type 0} → (X → Y) → Walked X → Walked 
 mapWalked h (stopped n at) = stopped n at
 mapWalked h (walked ts) = walked (map (map h) ts)
 
-newest-map : {X Y : Type 0} (h : X → Y) (ts : List (List X)) → newest (map (map h) ts) ≡ map h (newest ts)
+pub newest-map : {X Y : Type 0} (h : X → Y) (ts : List (List X)) → newest (map (map h) ts) ≡ map h (newest ts)
 newest-map h [] = refl
 newest-map h (t ∷ ts) = refl
 
@@ -96,6 +97,19 @@ flat-keeps K x y = refl
 -- the walk over tables of pairs with values that a request asks for
 abbrev pub valuedWalk : {W : Type 0} → Algebra Pair → Values W → ℕ → ℕ → Request → Walked (Valued Pair W)
 valuedWalk A R G K a = walk (tables (valued A R) (assumed a)) (λ t. pairsFault (a .pairLimit) G (items t)) 0 (commandsIn (reading K (a .bytes))) []
+
+-- that with numbers is that with words, the low ones taken
+low-items : {X : Type 0} (t : List (Valued X Value)) → items (map lowered t) ≡ items t
+low-items [] = refl
+low-items {X} (x ∷ t) = ap {B = List X} (λ xs. x .item ∷ xs) (low-items t)
+
+pub low-walk : (A : Algebra Pair) (R : Values ℕ) (G K : ℕ) (a : Request) → valuedWalk A R G K a ≡ mapWalked lowered (valuedWalk A (lowWords R) G K a)
+low-walk A R G K a =
+    walk-map (tables-map (low-morphism A R) (assumed a)) (λ t. pairsFault (a .pairLimit) G (items t)) 0 cs []
+    ∙ ap (λ (f : List (Valued Pair Value) → ℕ). mapWalked lowered (walk (tables (valued A (lowWords R)) (assumed a)) f 0 cs [])) (fun-ext (λ t. ap (pairsFault (a .pairLimit) G) (low-items t)))
+  where
+    cs : List Placed
+    cs = commandsIn (reading K (a .bytes))
 
 decide-passed : {X : Type 0} (A : Algebra X) (f : List X → ℕ) (y : List X → Bool) (K : ℕ) (a : Request) {z : Counts} → check K a ≡ Passed z
     → decide A f y K a ≡ conclude y (walk (tables A (assumed a)) f 0 (commandsIn (reading K (a .bytes))) [])

@@ -8,25 +8,21 @@ use Rattle.expression.specs.declared.Outcome.{Outcome}
 use Rattle.expression.specs.declared.Outcome.the-variants.{Yes, No, Refused}
 use Rattle.semantics.specs.AnswerSets.{Assumptions}
 use Rattle.tables.specs.Definitions.{accepting}
-use Rattle.values.specs.Values.{Total, none, worth, sumBy}
-use Rattle.values.specs.First.{firsts, passing, shownBy}
+use Rattle.values.specs.Values.{none, worth}
+use Rattle.values.specs.First.{shownBy}
 use Rattle.decisions.specs.Decisions.{newest, stopped, walked}
 use Rattle.entries.specs.declared.Carry.{Carry}
-use Rattle.entries.specs.declared.Carry.the-variants.{Nothing, First}
 use Rattle.entries.specs.Carries.{Entry}
 use Rattle.leaves.specs.declared.Tables.{Tables}
 use Rattle.answers.specs.declared.Found.{Found}
 use Rattle.answers.specs.declared.Found.the-variants as found
+use Rattle.answers.specs.Answers.{leastOf}
 use Rattle.walks.specs.Walks.{walkTo}
-
--- the least value of the entries that accept
-abbrev pub leastOf : List Entry → Total ℕ
-leastOf t = sumBy firsts (passing (accepting labelCount)) t
 
 -- an outcome with the least value for a plan: where the walk stops, or what the last table says
 abbrev pub Decides : Tables → Carry → Assumptions → ℕ → ℕ → List ℕ → Outcome → Type 0
-Decides kind carry o w p s (Yes v) = (us : List (List Entry)) × (walkTo kind carry o w p (length s) s ≡ walked us) × (leastOf (newest us) ≡ worth v)
-Decides kind carry o w p s No = (us : List (List Entry)) × (walkTo kind carry o w p (length s) s ≡ walked us) × (leastOf (newest us) ≡ none)
+Decides kind carry o w p s (Yes v) = (us : List (List Entry)) × (walkTo kind carry o w p (length s) s ≡ walked us) × (leastOf (accepting labelCount) (newest us) ≡ worth v)
+Decides kind carry o w p s No = (us : List (List Entry)) × (walkTo kind carry o w p (length s) s ≡ walked us) × (leastOf (accepting labelCount) (newest us) ≡ none)
 Decides kind carry o w p s (Refused n at) = walkTo kind carry o w p (length s) s ≡ stopped n at
 
 -- the outcome with the value that was found
@@ -45,8 +41,3 @@ abbrev pub plainOutcome : Outcome → Outcome
 plainOutcome (Yes v) = Yes 0
 plainOutcome No = No
 plainOutcome (Refused f at) = Refused f at
-
--- how many words of values a table of p rows takes
-abbrev pub valueWords : Carry → ℕ → ℕ
-valueWords Nothing p = 0
-valueWords First p = p

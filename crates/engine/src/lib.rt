@@ -14,12 +14,12 @@ ghost use Rattle.expression.specs.Limits.{atomLimit, depthLimit};
 ghost use Rattle.expression.specs.Checks.{checkBytes};
 ghost use Rattle.semantics.specs.AnswerSets.{byMasks};
 ghost use Rattle.rows.specs.Parts.{zeros};
-ghost use Rattle.entries.specs.Carries.{Beside, Kept};
+ghost use Rattle.entries.specs.Carries.{inWords, Beside, Kept};
 ghost use Rattle.entries.specs.declared.Carry.the-variants.{Nothing, First};
 ghost use Rattle.leaves.specs.declared.Tables.the-variants.{Plain, Pairs};
 ghost use Rattle.leaves.specs.Leaves.{Wide};
 ghost use Rattle.stacks.specs.Stacks.{cleared};
-ghost use Rattle.engine.specs.Engine.{valueOutcome, shownOutcome, plainOutcome, valueWords, Decides};
+ghost use Rattle.engine.specs.Engine.{valueOutcome, shownOutcome, plainOutcome, Decides};
 
 // Yes with the least value, or no.
 fn outcome_of(found: Found) -> Outcome
@@ -85,16 +85,6 @@ fn decide(
     }
 }
 
-// How many words of values a table of p rows takes.
-fn value_words(carry: Carry, p: usize) -> usize
-    ensures { λ r. ⌜ r ≡ valueWords carry p ⌝ }
-{
-    match carry {
-        Carry::Nothing => 0,
-        Carry::First => p,
-    }
-}
-
 // As decide, in arrays that are long enough.
 fn decide_in(
     s: &[u8],
@@ -113,12 +103,12 @@ fn decide_in(
     assumed_false: u64,
 ) -> Outcome
     requires { ⌜ Wide kind w × (w ≤ 4096) × (1 ≤ p) × (p ≤ 1024) × (w ≤ length (now row)) × (p ≤ length (now index)) ⌝ }
-    requires { ⌜ (now made ≡ zeros (length (now made))) × (valueWords carry p ≤ length (now made)) × Beside carry (depthLimit * p) (now vals) × (now counts ≡ zeros depthLimit) ⌝ }
+    requires { ⌜ (now made ≡ zeros (length (now made))) × (inWords carry p ≤ length (now made)) × Beside carry (depthLimit * p) (now vals) × (now counts ≡ zeros depthLimit) ⌝ }
     requires { ⌜ ((z : Counts) × (checkBytes labelCount (now s) ≡ Passed z)) × (need ≤ length (now ws)) × ((depthLimit + 1) * (p * w) ≤ need) ⌝ }
     ensures { λ r. ⌜ Decides kind carry (byMasks «assumed_true» «assumed_false») w p (now (s .entry)) r ⌝ }
     ensures { λ r. ⌜ now (ws .exit) ≡ cleared need (now (ws .entry)) ⌝ }
 {
-    let m = value_words(carry, p);
+    let m = entries::words_of(carry, p);
     decide(
         s,
         ws,

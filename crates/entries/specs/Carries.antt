@@ -1,44 +1,64 @@
--- What is carried beside the rows of a table in 64-bit words: nothing, or the value of the first interpretation. Assumes nothing.
-use mathlib.Core.List.{List, [], _++_}
+-- What is carried beside the rows of a table in 64-bit words: nothing, in one word the value of the first interpretation, or in two the atoms that some
+-- interpretation has and those that all have. Assumes nothing.
+use mathlib.Core.List.{List, [], _∷_, _++_, map}
 use mathlib.Core.Path.{_≡_}
-use Prim.Native.Nat.{ℕ, _-_, _≤_}
-use lib.ListN.{take, length}
+use Prim.Native.Nat.{ℕ, _-_, _*_, _≤_}
+use lib.ListN.{take, length, replicate}
 use Rattle.tables.specs.Algebras.{Algebra}
 use Rattle.tables.specs.Definitions.{Pair, pairs}
-use Rattle.values.specs.Values.{Values, Valued, valued}
+use Rattle.values.specs.declared.Value.{Value}
+use Rattle.values.specs.Values.{Values, Valued, valued, noValue, inLow, lowWords}
 use Rattle.values.specs.First.{firstWords}
+use Rattle.values.specs.Consequences.{consequences}
 use Rattle.rows.specs.Parts.{zeros}
 use Rattle.entries.specs.declared.Carry.{Carry}
-use Rattle.entries.specs.declared.Carry.the-variants.{Nothing, First}
+use Rattle.entries.specs.declared.Carry.the-variants.{Nothing, First, Consequences}
 
 -- the values as 64-bit words keep them
-abbrev pub carriedBy : Carry → Values ℕ
-carriedBy Nothing = record { unit = 0; either = λ a b. 0; together = λ a b. 0; present = λ c. 0; absent = λ c. 0 }
-carriedBy First = firstWords
+abbrev pub carriedBy : Carry → Values Value
+carriedBy Nothing = record { unit = noValue; either = λ a b. noValue; together = λ a b. noValue; present = λ c. noValue; absent = λ c. noValue }
+carriedBy First = lowWords firstWords
+carriedBy Consequences = consequences
 
 -- a value that the words keep
-abbrev pub Keeps : Carry → ℕ → Type 0
-Keeps Nothing v = v ≡ 0
-Keeps First v = Unit {0}
+abbrev pub Keeps : Carry → Value → Type 0
+Keeps Nothing v = v ≡ noValue
+Keeps First v = v .high ≡ 0
+Keeps Consequences v = Unit {0}
+
+-- how many words m values take
+abbrev pub inWords : Carry → ℕ → ℕ
+inWords Nothing m = 0
+inWords First m = m
+inWords Consequences m = 2 * m
+
+-- values of two words each, the high one first
+unfoldable pub twos : List ℕ → List Value
+twos [] = []
+twos (x ∷ []) = []
+twos (x ∷ y ∷ xs) = record { high = x; low = y } ∷ twos xs
 
 -- the values of the first m rows
-abbrev pub valuesIn : Carry → ℕ → List ℕ → List ℕ
-valuesIn Nothing m vals = zeros m
-valuesIn First m vals = take m vals
+abbrev pub valuesIn : Carry → ℕ → List ℕ → List Value
+valuesIn Nothing m vals = replicate m noValue
+valuesIn First m vals = map inLow (take m vals)
+valuesIn Consequences m vals = twos (take (2 * m) vals)
 
 -- the words that hold the values of m rows, and perhaps more
 abbrev pub Beside : Carry → ℕ → List ℕ → Type 0
-Beside Nothing m vals = Unit {0}
-Beside First m vals = m ≤ length vals
+Beside carry m vals = inWords carry m ≤ length vals
 
--- the words of the values of an area of p rows, m of them taken: zeros behind them
+-- p words, m of them taken: zeros behind them
+abbrev pub KeptWords : ℕ → ℕ → List ℕ → Type 0
+KeptWords p m vals = (vals ≡ take m vals ++ zeros (p - m)) × (length vals ≡ p)
+
+-- the words of the values of an area of p rows, m of them taken
 abbrev pub Kept : Carry → ℕ → ℕ → List ℕ → Type 0
-Kept Nothing p m vals = vals ≡ []
-Kept First p m vals = (vals ≡ take m vals ++ zeros (p - m)) × (length vals ≡ p)
+Kept carry p m vals = KeptWords (inWords carry p) (inWords carry m) vals
 
 -- a row with its value
 abbrev pub Entry : Type 0
-Entry = Valued Pair ℕ
+Entry = Valued Pair Value
 
 -- tables of pairs with values
 unfoldable pub entryAlgebra : ℕ → Carry → Algebra Entry

@@ -5,16 +5,17 @@ use Prim.Native.Nat.{ℕ, _+_, _≤_, _<_}
 use lib.ListN.{length}
 use Rattle.lists.specs.Sorted.{insert}
 use Rattle.tables.specs.Definitions.{Pair}
-use Rattle.values.specs.Values.{Valued}
+use Rattle.values.specs.declared.Value.{Value}
+use Rattle.values.specs.Values.{Valued, noValue}
 use Rattle.rows.specs.Rows.{sortedOf, Indexed}
 use Rattle.labels.specs.Labels.{labelCount}
 use Rattle.entries.specs.declared.Carry.{Carry}
 use Rattle.entries.specs.Carries.{Entry, entryAlgebra, valuesIn, Kept}
 
 -- pairs with values, place by place
-unfoldable pub withValues : List Pair → List ℕ → List Entry
+unfoldable pub withValues : List Pair → List Value → List Entry
 withValues [] vs = []
-withValues (x ∷ xs) [] = record { item = x; value = 0 } ∷ withValues xs []
+withValues (x ∷ xs) [] = record { item = x; value = noValue } ∷ withValues xs []
 withValues (x ∷ xs) (v ∷ vs) = record { item = x; value = v } ∷ withValues xs vs
 
 -- the entries of a table that is being made, in rising order

@@ -13,7 +13,8 @@ use Rattle.semantics.specs.AnswerSets.{Assumptions, byMasks}
 use Rattle.tables.specs.Algebras.{leaf, tables}
 use Rattle.tables.specs.Triples.{markF, markU}
 use Rattle.tables.specs.Definitions.{Pair, pairs, flat}
-use Rattle.values.specs.Values.{valued}
+use Rattle.values.specs.declared.Value.{Value}
+use Rattle.values.specs.Values.{valued, noValue}
 use Rattle.candidates.specs.Candidates.{pairOf}
 use Rattle.rows.specs.Parts.{zeros}
 use Rattle.rows.specs.Rows.{Rows, tableOf}
@@ -26,7 +27,7 @@ use Rattle.leaves.specs.declared.Tables.the-variants.{Plain, Pairs}
 use Rattle.leaves.specs.Leaves.{algebraOf, tableAlgebra}
 use Rattle.leaves.proofs.Writing.{absent-is, unmet-is, absent-value, unit-value}
 
-same-entry : {x y : Pair} {u v : ℕ} → x ≡ y → u ≡ v → _≡_ {A = Entry} (record { item = x; value = u }) (record { item = y; value = v })
+same-entry : {x y : Pair} {u v : Value} → x ≡ y → u ≡ v → _≡_ {A = Entry} (record { item = x; value = u }) (record { item = y; value = v })
 same-entry e f = λ i. record { item = e i; value = f i }
 
 module _ (kind : Tables) (carry : Carry) (g : ℕ) where
@@ -34,7 +35,7 @@ module _ (kind : Tables) (carry : Carry) (g : ℕ) where
   abbrev pub absents : ℕ → ℕ → List Entry
   absents trues c = cond (has c trues) [] (tableAlgebra kind carry .absent c g ∷ [])
 
-  pub present-first : (trues falses c v : ℕ) (out : Bool) (row : List ℕ) (rest : List Entry) → pairOf row ≡ algebraOf kind labelCount .present c g → v ≡ carriedBy carry .present c → out ≡ has c falses
+  pub present-first : (trues falses c : ℕ) (v : Value) (out : Bool) (row : List ℕ) (rest : List Entry) → pairOf row ≡ algebraOf kind labelCount .present c g → v ≡ carriedBy carry .present c → out ≡ has c falses
       → leaf (tableAlgebra kind carry) (byMasks trues falses) c g ++ rest ≡ cond out [] (entryOf row v ∷ []) ++ (absents trues c ++ rest)
   unfolding leaf byMasks tableAlgebra valued
   present-first trues falses c v out row rest e f h =
@@ -42,12 +43,12 @@ module _ (kind : Tables) (carry : Carry) (g : ℕ) where
       ∙ ap₂ {C = List Entry} (λ (b : Bool) (x : Entry). cond b [] (x ∷ []) ++ (absents trues c ++ rest)) (sym h) (same-entry (sym e) (sym f))
 
   pub absent-next : (trues c : ℕ) (within : Bool) (row : List ℕ) → pairOf row ≡ markF labelCount g ∷ [] → within ≡ has c trues
-      → absents trues c ≡ cond within [] (entryOf row 0 ∷ [])
+      → absents trues c ≡ cond within [] (entryOf row noValue ∷ [])
   unfolding tableAlgebra valued
   absent-next trues c within row e h =
       ap₂ {C = List Entry} (λ (b : Bool) (x : Entry). cond b [] (x ∷ [])) (sym h) (same-entry (sym (e ∙ absent-is kind c g)) (absent-value carry c))
 
-  pub unmet-entry : (row : List ℕ) → pairOf row ≡ markU labelCount g ∷ [] → tableAlgebra kind carry .unmet g ≡ entryOf row 0
+  pub unmet-entry : (row : List ℕ) → pairOf row ≡ markU labelCount g ∷ [] → tableAlgebra kind carry .unmet g ≡ entryOf row noValue
   unfolding tableAlgebra valued
   unmet-entry row e = same-entry (sym (e ∙ unmet-is kind g)) (unit-value carry)
 

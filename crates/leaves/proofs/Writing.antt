@@ -9,9 +9,11 @@ use lib.Pow.{shl-exact}
 use Rattle.labels.specs.Labels.{labelCount}
 use Rattle.tables.specs.Triples.{markT, markF, markU}
 use Rattle.tables.specs.Definitions.{pairs, flat}
+use Rattle.values.specs.Values.{noValue}
+use Rattle.values.specs.Consequences.{consequences}
 use Rattle.candidates.specs.Candidates.{pairOf, Readable}
 use Rattle.entries.specs.declared.Carry.{Carry}
-use Rattle.entries.specs.declared.Carry.the-variants.{Nothing, First}
+use Rattle.entries.specs.declared.Carry.the-variants.{Nothing, First, Consequences}
 use Rattle.entries.specs.Carries.{carriedBy, Keeps}
 use Rattle.leaves.specs.declared.Tables.{Tables}
 use Rattle.leaves.specs.declared.Tables.the-variants.{Plain, Pairs}
@@ -77,17 +79,23 @@ unmet-is Pairs g = refl
 -- words keep them
 pub keeps-present : (carry : Carry) (c : ℕ) → Keeps carry (carriedBy carry .present c)
 keeps-present Nothing c = refl
-keeps-present First c = tt
+keeps-present First c = refl
+keeps-present Consequences c = tt
 
-pub keeps-zero : (carry : Carry) → Keeps carry 0
+pub keeps-zero : (carry : Carry) → Keeps carry noValue
 keeps-zero Nothing = refl
-keeps-zero First = tt
+keeps-zero First = refl
+keeps-zero Consequences = tt
 
 -- an atom that is out has none, and no rule has one
-pub absent-value : (carry : Carry) (c : ℕ) → carriedBy carry .absent c ≡ 0
+pub absent-value : (carry : Carry) (c : ℕ) → carriedBy carry .absent c ≡ noValue
+unfolding consequences
 absent-value Nothing c = refl
 absent-value First c = refl
+absent-value Consequences c = refl
 
-pub unit-value : (carry : Carry) → carriedBy carry .unit ≡ 0
+pub unit-value : (carry : Carry) → carriedBy carry .unit ≡ noValue
+unfolding consequences
 unit-value Nothing = refl
 unit-value First = refl
+unit-value Consequences = refl

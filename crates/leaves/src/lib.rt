@@ -1,6 +1,7 @@
 // The tables of the leaves of an expression: of an atom under assumptions, and of a rule.
 use entries::Carry;
 use expression::limits::ATOM_LIMIT;
+use values::Value;
 ghost use mathlib.Core.Path.{_≡_};
 ghost use mathlib.Core.Bool.{cond};
 ghost use mathlib.Core.List.{[], _∷_};
@@ -27,6 +28,9 @@ pub enum Tables {
 // labels::LABELS at the width of a word.
 const LABELS: u32 = labels::LABELS as u32;
 
+// The value of an atom that is out, and of a rule.
+const NO_VALUE: Value = Value { high: 0, low: 0 };
+
 // The set of the mark m alone.
 fn mark(m: u32) -> u32
     requires { ⌜ m < 32 ⌝ }
@@ -44,13 +48,23 @@ fn has_atom(c: u64, mask: u64) -> bool
 }
 
 // The value of the atom c where it is in.
-fn present_value(carry: Carry, c: u64) -> u64
+fn present_value(carry: Carry, c: u64) -> Value
     requires { ⌜ c < atomLimit ⌝ }
     ensures { λ r. ⌜ r ≡ carriedBy carry .present c ⌝ }
 {
     match carry {
-        Carry::Nothing => 0,
-        Carry::First => 1 << (ATOM_LIMIT - (c + 1)),
+        Carry::Nothing => Value { high: 0, low: 0 },
+        Carry::First => {
+            let low = 1 << (ATOM_LIMIT - (c + 1));
+            Value { high: 0, low }
+        }
+        Carry::Consequences => {
+            let mask = 1 << c;
+            Value {
+                high: mask,
+                low: mask,
+            }
+        }
     }
 }
 
@@ -117,7 +131,7 @@ fn put_unless(
     p: usize,
     to: usize,
     m: usize,
-    v: u64,
+    v: Value,
     excluded: bool,
 ) -> usize
     requires { ⌜ (2 ≤ w) × (p ≤ 1024) × (to + p * w ≤ length (now ws)) ⌝ }
@@ -158,7 +172,7 @@ fn put_leaf(
     let m = put_unless(ws, row, index, vals, carry, w, p, to, 0, v, is_false);
     write_absent(row, g);
     let is_true = has_atom(c, assumed_true);
-    put_unless(ws, row, index, vals, carry, w, p, to, m, 0, is_true)
+    put_unless(ws, row, index, vals, carry, w, p, to, m, NO_VALUE, is_true)
 }
 
 // The table of the atom c of label g under assumptions, put at word `at`, where a table of no rows is; made in the words from `to` on. The answer is how
@@ -226,7 +240,7 @@ pub fn rule_table(
     ensures { λ r. ⌜ r ≤ p ⌝ }
 {
     write_unmet(row, g);
-    let m = making::put_entry(ws, row, index, vals, carry, w, p, to, 0, 0);
+    let m = making::put_entry(ws, row, index, vals, carry, w, p, to, 0, NO_VALUE);
     making::settle(ws, row, index, w, p, m, 0, at, to);
     m
 }

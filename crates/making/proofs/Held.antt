@@ -8,6 +8,8 @@ use lib.ListN.{length, drop, getD, drop-of-length-le}
 use lib.Seq.{drop-cons}
 use Rattle.lists.proofs.Members.{all-get}
 use Rattle.tables.specs.Definitions.{Pair}
+use Rattle.values.specs.declared.Value.{Value}
+use Rattle.values.specs.Values.{noValue}
 use Rattle.candidates.specs.Candidates.{pairOf, Readable}
 use Rattle.rows.specs.Parts.{part}
 use Rattle.rows.specs.Rows.{Fit, rowsIn, Rows, slot}
@@ -16,7 +18,8 @@ use Rattle.rows.proofs.Tables.{row-within, length-rowsIn, rowsIn-at, slot-at}
 use Rattle.rows.proofs.Single.{row-readable}
 use Rattle.entries.specs.declared.Carry.{Carry}
 use Rattle.entries.specs.Carries.{valuesIn, Beside, Entry}
-use Rattle.entries.proofs.Entering.{none, length-with, with-at, values-long}
+use Rattle.entries.proofs.Entering.{none, length-with, with-at}
+use Rattle.entries.proofs.Keeping.{values-long}
 use Rattle.making.specs.Making.{entryAt, entriesAt}
 
 -- the n entries of the area at word b
@@ -41,7 +44,7 @@ module _ (carry : Carry) (w p b n : ℕ) (others wsₛ : List ℕ) (within : b +
       subst Readable e (row-readable w (getD xs j []) (all-get (Fit w) [] xs j (t .fit) (omega (arith, k))))
 
   -- the j-th one, where its row is as it was
-  pub entry-at : (j : ℕ) → j < n → (v : ℕ) → v ≡ getD (valuesIn carry n others) j 0 → (ws : List ℕ) → part (b + j * w) w ws ≡ part (b + j * w) w wsₛ → getD bs j none ≡ entryAt w (b + j * w) v ws
+  pub entry-at : (j : ℕ) → j < n → (v : Value) → v ≡ getD (valuesIn carry n others) j noValue → (ws : List ℕ) → part (b + j * w) w ws ≡ part (b + j * w) w wsₛ → getD bs j none ≡ entryAt w (b + j * w) v ws
   entry-at j l v ev ws e =
       let k = length-rowsIn w n area in
       with-at (rowsIn w n area) (valuesIn carry n others) j (values-long carry n others beside ∙ sym k) (omega (arith, k))

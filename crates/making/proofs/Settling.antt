@@ -7,6 +7,7 @@ use lib.ListN.{length}
 use Rattle.lists.specs.Lists.{All}
 use Rattle.lists.specs.Sorted.{insertAll, canon, Rising}
 use Rattle.tables.specs.Definitions.{Pair}
+use Rattle.values.specs.declared.Value.{Value}
 use Rattle.rows.specs.Parts.{part, put, zeros}
 use Rattle.rows.specs.Rows.{tableOf, sortedOf, Indexed}
 use Rattle.rows.proofs.Parts.{part-long, part-low, part-high, put-put, put-part, put-comm}
@@ -52,7 +53,7 @@ begin carry w p to cands ws index vals z l k =
 
 -- ---- what it leaves
 
-items-of : (xs : List Pair) (vs : List ℕ) → map (λ (x : Entry). x .item) (withValues xs vs) ≡ xs
+items-of : (xs : List Pair) (vs : List Value) → map (λ (x : Entry). x .item) (withValues xs vs) ≡ xs
 unfolding withValues
 items-of [] vs = refl
 items-of (x ∷ xs) [] = ap (λ (l : List Pair). x ∷ l) (items-of xs [])

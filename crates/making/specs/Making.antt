@@ -6,6 +6,7 @@ use lib.ListN.{length}
 use Rattle.lists.specs.Lists.{All}
 use Rattle.lists.specs.Sorted.{insertAll, canon}
 use Rattle.labels.specs.Labels.{labelCount}
+use Rattle.values.specs.declared.Value.{Value}
 use Rattle.candidates.specs.Candidates.{pairOf}
 use Rattle.rows.specs.Parts.{part, put, zeros}
 use Rattle.rows.specs.Rows.{Fit, rowsIn, tableOf, sortedOf, Rows, Indexed}
@@ -77,10 +78,10 @@ pub record Finished (carry : Carry) (w p at : ℕ) (cands : List Entry) (r : ℕ
   pub values : r ≤ p → withValues (map (λ x. x .item) (tableOfAll carry cands)) (valuesIn carry r vals') ≡ tableOfAll carry cands
 
 -- the entry of a row, with a value; of the row at word a
-abbrev pub entryOf : List ℕ → ℕ → Entry
+abbrev pub entryOf : List ℕ → Value → Entry
 entryOf row v = record { item = pairOf row; value = v }
 
-abbrev pub entryAt : ℕ → ℕ → ℕ → List ℕ → Entry
+abbrev pub entryAt : ℕ → ℕ → Value → List ℕ → Entry
 entryAt w a v ws = entryOf (part a w ws) v
 
 -- the entries of the n rows of the area at word a, with their values

@@ -1,5 +1,6 @@
 // A table that is being made of candidates, in words of its own.
 use entries::Carry;
+use values::Value;
 ghost use mathlib.Core.Path.{_≡_};
 ghost use mathlib.Core.List.{[], _∷_};
 ghost use Prim.Native.Nat.{_+_, _*_, _≤_};
@@ -22,7 +23,7 @@ pub fn put_entry(
     p: usize,
     to: usize,
     m: usize,
-    v: u64,
+    v: Value,
 ) -> usize
     requires { ⌜ (2 ≤ w) × (p ≤ 1024) × (to + p * w ≤ length (now ws)) ⌝ }
     requires { ⌜ Readable (now row) × (length (now row) ≡ w) × Keeps carry v ⌝ }

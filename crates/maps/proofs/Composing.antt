@@ -1,7 +1,7 @@
 -- Commands at once are commands one after the other, and a rule among them is the union with it. Assumes nothing.
 use mathlib.Core.Path.{_≡_, refl, sym, ap, ap₂, _∙_}
 use mathlib.Core.List.{List, [], _∷_, map}
-use Prim.Native.Nat.{ℕ}
+use Prim.Native.Nat.{ℕ, _+_, _%_, _^_}
 use native.Mathlib.Omega.{arith}
 use lib.Bits.{bitOr}
 use Rattle.lists.specs.declared.Order.{Order}
@@ -15,10 +15,12 @@ use Rattle.expression.specs.declared.Command.{Command}
 use Rattle.expression.specs.declared.Command.the-variants.{Rule}
 use Rattle.tables.specs.Triples.{markU}
 use Rattle.tables.specs.Definitions.{Pair, ownTriple, subsets, unitePairs, pairs}
-use Rattle.values.specs.Values.{valued}
+use Rattle.values.specs.declared.Value.{Value}
+use Rattle.values.specs.Values.{valued, inLow}
+use Rattle.values.proofs.Consequences.{consequences-semiring}
 use Rattle.batches.specs.Batches.{stepTriple, step, steps, cleaned, batchPair}
 use Rattle.entries.specs.declared.Carry.{Carry}
-use Rattle.entries.specs.declared.Carry.the-variants.{Nothing, First}
+use Rattle.entries.specs.declared.Carry.the-variants.{Nothing, First, Consequences}
 use Rattle.entries.specs.Carries.{Entry, entryAlgebra, carriedBy}
 use Rattle.making.specs.Making.{tableOfAll}
 use Rattle.maps.specs.Maps.{batched, batchedTable, Small}
@@ -57,13 +59,15 @@ rule-pair g x = rw (no-products (subsets x))
 
 -- ---- tables
 
-either-turns : (carry : Carry) (a b : ℕ) → carriedBy carry .either a b ≡ carriedBy carry .either b a
+either-turns : (carry : Carry) (a b : Value) → carriedBy carry .either a b ≡ carriedBy carry .either b a
 either-turns Nothing a b = refl
-either-turns First a b = omega arith
+either-turns First a b = ap inLow (omega arith)
+either-turns Consequences a b = consequences-semiring .either-comm a b
 
-either-joins : (carry : Carry) (a b c : ℕ) → carriedBy carry .either (carriedBy carry .either a b) c ≡ carriedBy carry .either a (carriedBy carry .either b c)
+either-joins : (carry : Carry) (a b c : Value) → carriedBy carry .either (carriedBy carry .either a b) c ≡ carriedBy carry .either a (carriedBy carry .either b c)
 either-joins Nothing a b c = refl
-either-joins First a b c = omega arith
+either-joins First a b c = ap inLow (omega arith)
+either-joins Consequences a b c = consequences-semiring .either-assoc a b c
 
 map-map : (f g h : Entry → Entry) → ((x : Entry) → f (g x) ≡ h x) → (t : List Entry) → map f (map g t) ≡ map h t
 map-map f g h e [] = refl
@@ -85,13 +89,14 @@ module _ (carry : Carry) where
     where
       go : (k : Carry) (x : Entry) → Small k x → carriedBy k .together (x .value) (carriedBy k .unit) ≡ x .value
       go Nothing x h = sym h
-      go First x h = omega (arith, h)
+      go First x h = ap₂ {C = Value} (λ u v. record { high = u; low = v }) (sym (h .0)) (let z : (x .value .low + 0) % 2 ^ 64 ≡ x .value .low = omega (arith, h .1) in z)
+      go Consequences x h = consequences-semiring .together-unit (x .value)
 
   united-all : (g : ℕ) (t : List Entry) → All (Small carry) t → products (entryAlgebra labelCount carry .united) t (entryAlgebra labelCount carry .unmet g ∷ []) ≡ map (batched (Rule g ∷ [])) t
   unfolding products entryAlgebra valued pairs
   united-all g [] h = refl
   united-all g (x ∷ t) h =
-      ap₂ {C = List Entry} (λ y l. y ∷ l) (ap₂ {C = Entry} (λ (y : Pair) (v : ℕ). record { item = y; value = v }) (rule-pair g (x .item)) (unit-small x (h .0))) (united-all g t (h .1))
+      ap₂ {C = List Entry} (λ y l. y ∷ l) (ap₂ {C = Entry} (λ (y : Pair) (v : Value). record { item = y; value = v }) (rule-pair g (x .item)) (unit-small x (h .0))) (united-all g t (h .1))
 
   -- the union with a rule
   pub rule-united : (g : ℕ) (t : List Entry) → All (Small carry) t → tableOfAll carry (products (entryAlgebra labelCount carry .united) t (entryAlgebra labelCount carry .unmet g ∷ [])) ≡ batchedTable carry (Rule g ∷ []) t
@@ -102,7 +107,8 @@ module _ (carry : Carry) where
     where
       go : (k : Carry) (x y : Entry) → Small k x → Small k y → Small k (record { item = y .item; value = carriedBy k .either (x .value) (y .value) })
       go Nothing x y a b = refl
-      go First x y a b = omega (arith, a, b)
+      go First x y a b = (refl, omega (arith, a .1, b .1))
+      go Consequences x y a b = tt
 
   small-put : (x : Entry) (l : List Entry) → Small carry x → All (Small carry) l → All (Small carry) (insert (entryAlgebra labelCount carry .order) (entryAlgebra labelCount carry .merge) x l)
   unfolding insert entryAlgebra valued pairs
@@ -127,6 +133,7 @@ module _ (carry : Carry) where
       go : (k : Carry) (y : Entry) → Small k y → Small k (batched cs y)
       go Nothing y a = a
       go First y a = a
+      go Consequences y a = tt
 
   -- values stay small
   pub small-batched : (cs : List Command) (t : List Entry) → All (Small carry) t → All (Small carry) (batchedTable carry cs t)

@@ -1,17 +1,19 @@
 -- The entries of a table mapped one after the other: the next candidate, and that there are no more candidates than rows. Assumes nothing.
-use mathlib.Core.Path.{_≡_, refl, sym, ap, _∙_}
+use mathlib.Core.Path.{_≡_, sym, ap, _∙_}
 use mathlib.Core.List.{List, _∷_, map}
 use Prim.Native.Nat.{ℕ, _+_, _*_, _≤_, _<_}
 use native.Mathlib.Decide.{decLe}
 use native.Mathlib.Omega.{arith}
-use lib.ListN.{length, drop, getD}
+use lib.ListN.{length, take, drop, getD, List·getD-map}
 use Rattle.lists.proofs.Canon.{length-canon-map}
 use Rattle.labels.specs.Labels.{labelCount}
 use Rattle.expression.specs.declared.Command.{Command}
+use Rattle.values.specs.declared.Value.{Value}
+use Rattle.values.specs.Values.{noValue, inLow}
 use Rattle.rows.specs.Parts.{part}
 use Rattle.rows.specs.Rows.{Rows}
 use Rattle.entries.specs.declared.Carry.{Carry}
-use Rattle.entries.specs.declared.Carry.the-variants.{Nothing, First}
+use Rattle.entries.specs.declared.Carry.the-variants.{Nothing, First, Consequences}
 use Rattle.entries.specs.Carries.{Keeps, valuesIn, Beside, Entry, entryAlgebra}
 use Rattle.entries.proofs.Keeping.{no-value}
 use Rattle.making.specs.Making.{Making, tableOfAll, entriesAt}
@@ -19,16 +21,17 @@ use Rattle.making.proofs.Held.{entries-long, entry-at, entries-from}
 use Rattle.maps.specs.Maps.{batched, batchedAt}
 
 -- the value of a row is one that words keep
-pub keeps-value : (carry : Carry) (n j : ℕ) (old : List ℕ) → Keeps carry (getD (valuesIn carry n old) j 0)
-keeps-value Nothing n j old = sym (no-value Nothing n j old refl)
-keeps-value First n j old = tt
+pub keeps-value : (carry : Carry) (n j : ℕ) (old : List ℕ) → Keeps carry (getD (valuesIn carry n old) j noValue)
+keeps-value Nothing n j old = sym (no-value n j)
+keeps-value First n j old = ap (λ (v : Value). v .high) (List·getD-map inLow (take n old) j 0)
+keeps-value Consequences n j old = tt
 
 -- the n entries of the area at word a
 module _ (carry : Carry) (w p a n : ℕ) (old wsₛ : List ℕ) (within : a + p * w ≤ length wsₛ) (t : Rows w p n (part a (p * w) wsₛ)) (beside : Beside carry n old) (cs : List Command) where
   abbrev xs : List Entry
   xs = entriesAt carry w p a n old wsₛ
 
-  pub next-is : (j : ℕ) → j < n → (v : ℕ) → v ≡ getD (valuesIn carry n old) j 0 → (ws : List ℕ) → part (a + j * w) w ws ≡ part (a + j * w) w wsₛ
+  pub next-is : (j : ℕ) → j < n → (v : Value) → v ≡ getD (valuesIn carry n old) j noValue → (ws : List ℕ) → part (a + j * w) w ws ≡ part (a + j * w) w wsₛ
       → map (batched cs) (drop j xs) ≡ batchedAt w (a + j * w) v cs ws ∷ map (batched cs) (drop (j + 1) xs)
   next-is j l v ev ws e =
       ap (map (batched cs)) (entries-from carry w p a n old wsₛ within t beside j l)

@@ -1,7 +1,6 @@
 -- Entries with values put in order: which comes first does not matter, so a table may be put in order before its entries are mapped or after. Assumes nothing.
 use mathlib.Core.Path.{_≡_, refl, sym, ap, ap₂, _∙_}
 use mathlib.Core.List.{List, [], _∷_, map}
-use Prim.Native.Nat.{ℕ}
 use Rattle.lists.specs.declared.Order.{Order}
 use Rattle.lists.specs.declared.Order.the-variants.{Less, Same, More}
 use Rattle.lists.specs.Sorted.{byOrder, insert, insertAll, canon}
@@ -9,10 +8,10 @@ use Rattle.lists.proofs.Comparisons.{Lawful}
 use Rattle.lists.proofs.Ranks.{back}
 use Rattle.values.specs.Values.{Valued}
 
-module _ {X : Type 0} {cmp : X → X → Order} {same : X → X → X} (L : Lawful cmp same) (either : ℕ → ℕ → ℕ)
-    (comm : (a b : ℕ) → either a b ≡ either b a) (assoc : (a b c : ℕ) → either (either a b) c ≡ either a (either b c)) where
+module _ {X W : Type 0} {cmp : X → X → Order} {same : X → X → X} (L : Lawful cmp same) (either : W → W → W)
+    (comm : (a b : W) → either a b ≡ either b a) (assoc : (a b c : W) → either (either a b) c ≡ either a (either b c)) where
   abbrev E : Type 0
-  E = Valued X ℕ
+  E = Valued X W
 
   abbrev order : E → E → Order
   order x y = cmp (x .item) (y .item)
@@ -58,7 +57,7 @@ module _ {X : Type 0} {cmp : X → X → Order} {same : X → X → X} (L : Lawf
       go Less More a b r = rw (a, back L (x .item) (y .item) (L .trans (x .item) (z .item) (y .item) a (L .flip (y .item) (z .item) b)), b)
       go Same Less a b r = rw (b, back L (y .item) (x .item) (ap (cmp (y .item)) (L .same (x .item) (z .item) a) ∙ b), a)
       go Same Same a b r =
-          rw (a, b) (ap (λ (v : ℕ). record { item = z .item; value = v } ∷ l) (sym (assoc (x .value) (y .value) (z .value)) ∙ ap (λ (v : ℕ). either v (z .value)) (comm (x .value) (y .value)) ∙ assoc (y .value) (x .value) (z .value)))
+          rw (a, b) (ap (λ (v : W). record { item = z .item; value = v } ∷ l) (sym (assoc (x .value) (y .value) (z .value)) ∙ ap (λ (v : W). either v (z .value)) (comm (x .value) (y .value)) ∙ assoc (y .value) (x .value) (z .value)))
       go Same More a b r = rw (a, b)
       go More Less a b r = rw (b, back L (y .item) (x .item) (L .trans (y .item) (z .item) (x .item) b (L .flip (x .item) (z .item) a)), a)
       go More Same a b r = rw (a, b)
@@ -73,7 +72,7 @@ module _ {X : Type 0} {cmp : X → X → Order} {same : X → X → X} (L : Lawf
       go : (o : Order) → order y z ≡ o → put (merge x y) l ≡ put x (put y l)
           → byOrder o (merge x y ∷ z ∷ l) (merge (merge x y) z ∷ l) (z ∷ put (merge x y) l) ≡ put x (byOrder o (y ∷ z ∷ l) (merge y z ∷ l) (z ∷ put y l))
       go Less e r = rw h
-      go Same e r = rw (same-as x y z h, e) (ap (λ (v : ℕ). record { item = z .item; value = v } ∷ l) (assoc (x .value) (y .value) (z .value)))
+      go Same e r = rw (same-as x y z h, e) (ap (λ (v : W). record { item = z .item; value = v } ∷ l) (assoc (x .value) (y .value) (z .value)))
       go More e r = rw (same-as x y z h, e, r)
 
   put-all : (x : E) (xs acc : List E) → insertAll order merge xs (put x acc) ≡ put x (insertAll order merge xs acc)

@@ -4,9 +4,11 @@ use mathlib.Core.List.{List, map}
 use Prim.Native.Nat.{ℕ, _^_, _<_}
 use Rattle.labels.specs.Labels.{labelCount}
 use Rattle.expression.specs.declared.Command.{Command}
+use Rattle.values.specs.declared.Value.{Value}
+use Rattle.values.specs.Values.{noValue}
 use Rattle.batches.specs.Batches.{batchPair}
 use Rattle.entries.specs.declared.Carry.{Carry}
-use Rattle.entries.specs.declared.Carry.the-variants.{Nothing, First}
+use Rattle.entries.specs.declared.Carry.the-variants.{Nothing, First, Consequences}
 use Rattle.entries.specs.Carries.{Entry}
 use Rattle.making.specs.Making.{tableOfAll, entryAt}
 
@@ -15,14 +17,15 @@ abbrev pub batched : List Command → Entry → Entry
 batched cs x = record { item = batchPair labelCount cs (x .item); value = x .value }
 
 -- the entry of the row at word ra, with a value, mapped
-abbrev pub batchedAt : ℕ → ℕ → ℕ → List Command → List ℕ → Entry
+abbrev pub batchedAt : ℕ → ℕ → Value → List Command → List ℕ → Entry
 batchedAt w ra v cs ws = batched cs (entryAt w ra v ws)
 
 -- the table of the entries mapped
 abbrev pub batchedTable : Carry → List Command → List Entry → List Entry
 batchedTable carry cs t = tableOfAll carry (map (batched cs) t)
 
--- a value as a word holds it
+-- a value that stays as it is together with that of a rule: as words hold it
 abbrev pub Small : Carry → Entry → Type 0
-Small Nothing x = x .value ≡ 0
-Small First x = x .value < 2 ^ 64
+Small Nothing x = x .value ≡ noValue
+Small First x = (x .value .high ≡ 0) × (x .value .low < 2 ^ 64)
+Small Consequences x = Unit {0}

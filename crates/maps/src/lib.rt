@@ -1,5 +1,6 @@
 // Relabels, connects and unions with a rule on a table, several at once.
 use entries::Carry;
+use values::Value;
 ghost use mathlib.Core.Path.{_≡_};
 ghost use mathlib.Core.List.{[], _∷_, map};
 ghost use Prim.Native.Nat.{_+_, _*_, _≤_};
@@ -25,7 +26,7 @@ pub fn map_entry(
     ra: usize,
     to: usize,
     m: usize,
-    v: u64,
+    v: Value,
     ops: &[u32],
 ) -> usize
     requires { ⌜ (2 ≤ w) × (w ≤ 4096) × (p ≤ 1024) × (length (now row) ≡ w) ⌝ }

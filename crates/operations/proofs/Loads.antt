@@ -1,5 +1,5 @@
 -- What a workspace that holds a stack of tables gives to a command: room, scratch, and its operands. Assumes nothing.
-use mathlib.Core.Path.{_≡_, refl, sym, ap, _∙_, subst}
+use mathlib.Core.Path.{_≡_, sym, ap, _∙_, subst}
 use mathlib.Core.List.{List, [], _∷_, map}
 use Prim.Native.Nat.{ℕ, suc, _+_, _-_, _*_, _≤_, _<_}
 use native.Mathlib.Omega.{arith}
@@ -11,8 +11,8 @@ use Rattle.decisions.specs.Decisions.{newest}
 use Rattle.rows.specs.Parts.{part, zeros}
 use Rattle.rows.specs.Rows.{Rows, rowsIn, tableOf}
 use Rattle.entries.specs.declared.Carry.{Carry}
-use Rattle.entries.specs.declared.Carry.the-variants.{Nothing, First}
-use Rattle.entries.specs.Carries.{Entry, valuesIn, Beside}
+use Rattle.entries.specs.Carries.{Entry, inWords, valuesIn, Beside}
+use Rattle.entries.proofs.Keeping.{in-row, in-most, in-rising}
 use Rattle.making.specs.Making.{entriesAt}
 use Rattle.workspace.specs.Workspace.{workspaceOf, Sound, pairsOf, valuesOf, valuesFrom}
 use Rattle.workspace.proofs.Areas.{workspace-long, area-newest, area-second, area-free, scratch-free}
@@ -22,13 +22,12 @@ use Rattle.operations.specs.Operations.{Loaded}
 
 -- ---- room for values
 
-pub from-first : (carry : Carry) (p i : ℕ) → carry ≡ First → i * p ≡ valuesFrom carry p i
-from-first Nothing p i e = let q : _≡_ {A = ℕ} 0 1 = cc in absurd (omega arith)
-from-first First p i e = refl
+-- p values take few words
+pub few-words : (carry : Carry) (p : ℕ) → p ≤ 1024 → inWords carry p ≤ 2048
+few-words carry p l = omega (arith, in-most carry p)
 
 from-within : (carry : Carry) (p i : ℕ) (vals : List ℕ) → Beside carry (i * p + p) vals → valuesFrom carry p i ≤ length vals
-from-within Nothing p i vals h = omega arith
-from-within First p i vals h = omega arith
+from-within carry p i vals h = omega (arith, in-row carry i p)
 
 -- the words from o on
 pub rest-is : (o : ℕ) (xs : List ℕ) → take (length xs - o) (drop o xs) ≡ drop o xs
@@ -36,18 +35,10 @@ rest-is o xs = take-all (length xs - o) (drop o xs) (simp length-drop (omega ari
 
 module _ (carry : Carry) (d p i : ℕ) (vals : List ℕ) (l : i + 1 < d) (h : Beside carry ((d - 1) * p) vals) where
   pub beside-room : Beside carry (i * p + p) vals
-  beside-room = room carry h
-    where
-      room : (c : Carry) → Beside c ((d - 1) * p) vals → Beside c (i * p + p) vals
-      room Nothing h = tt
-      room First h = omega (arith, row-within i (d - 1) p (omega arith))
+  beside-room = omega (arith, h, in-rising carry (i * p + p) ((d - 1) * p) (row-within i (d - 1) p (omega arith)))
 
   beside-at : (n : ℕ) → n ≤ p → Beside carry n (drop (valuesFrom carry p i) vals)
-  beside-at n g = there carry beside-room
-    where
-      there : (c : Carry) → Beside c (i * p + p) vals → Beside c n (drop (valuesFrom c p i) vals)
-      there Nothing h = tt
-      there First h = simp length-drop (omega arith)
+  beside-at n g = simp length-drop (omega (arith, beside-room, in-row carry i p, in-rising carry n p g))
 
   -- where the values of table i begin, there is a word or the end
   module _ (o : ℕ) (e : o ≡ valuesFrom carry p i) where

@@ -25,10 +25,7 @@ fn values_from(carry: Carry, p: usize, i: usize) -> usize
     requires { ⌜ (i ≤ depthLimit) × (p ≤ 1024) ⌝ }
     ensures { λ r. ⌜ r ≡ valuesFrom carry p i ⌝ }
 {
-    match carry {
-        Carry::Nothing => 0,
-        Carry::First => i * p,
-    }
+    i * entries::words_of(carry, p)
 }
 
 // Of t tables in d areas the newest, of n entries, is united with the one below it, of m. Values are made in `made`.

@@ -15,8 +15,6 @@ use Rattle.expression.specs.Checks.{Request, check}
 use Rattle.expression.proofs.Accepted.{check-accepted}
 use Rattle.expression.proofs.Remaining.{remains-end}
 use Rattle.tables.specs.Definitions.{accepting, groundedAccepts}
-use Rattle.values.specs.Values.{sumBy}
-use Rattle.values.specs.First.{firsts, passing}
 use Rattle.decisions.specs.Decisions.{newest}
 use Rattle.rows.specs.Parts.{part}
 use Rattle.rows.specs.Rows.{Rows}
@@ -27,7 +25,7 @@ use Rattle.workspace.specs.Workspace.{pairsOf}
 use Rattle.stacks.specs.Stacks.{countBelow}
 use Rattle.answers.specs.declared.Found.{Found}
 use Rattle.answers.specs.declared.Found.the-variants.{None, Least}
-use Rattle.answers.specs.Answers.{totalOf}
+use Rattle.answers.specs.Answers.{leastOf, totalOf}
 use Rattle.answers.proofs.Accepting.{none-denies, worth-affirms}
 use Rattle.walks.specs.Walks.{Stands}
 use Rattle.walks.proofs.Last.{last-rows, last-entries}
@@ -77,9 +75,9 @@ module _ (a : Request) (r : Record) (ws : List ℕ) {z n : Counts} (passed : che
   first-pairs = sym (newest-pairs us) ∙ ap newest (bare-tables (found labelCount a r ws))
 
   -- what is found in it
-  module _ (x : Found) (e : totalOf x ≡ sumBy firsts (passing (accepting labelCount)) (entriesAt Nothing w p 0 first [] ws)) where
-    least : sumBy firsts (passing (accepting labelCount)) (newest us) ≡ totalOf x
-    least = ap (sumBy firsts (passing (accepting labelCount))) (sym first-entries) ∙ sym e
+  module _ (x : Found) (e : totalOf x ≡ leastOf (accepting labelCount) (entriesAt Nothing w p 0 first [] ws)) where
+    least : leastOf (accepting labelCount) (newest us) ≡ totalOf x
+    least = ap (leastOf (accepting labelCount)) (sym first-entries) ∙ sym e
 
     by : (b : Bool) → groundedAccepts labelCount (pairsOf (newest us)) ≡ b → conclusion labelCount a r ws ≡ cond b (Yes 0) No
     by b f = conclusion-ended labelCount a r ws end ∙ ap (λ (c : Bool). cond c (Yes 0) No) (ap (groundedAccepts labelCount) (sym first-pairs) ∙ f)

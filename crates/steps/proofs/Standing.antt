@@ -1,14 +1,15 @@
--- Tables of pairs as tables that carry nothing: each pair with value 0. Assumes nothing.
+-- Tables of pairs as tables that carry nothing: each pair with no value. Assumes nothing.
 use mathlib.Core.Path.{_≡_, refl, sym, ap, ap₂, _∙_}
 use mathlib.Core.List.{List, [], _∷_, map}
 use Prim.Native.Nat.{ℕ, _<_}
 use native.Mathlib.Omega.{arith}
-use lib.ListN.{length, length-map}
+use lib.ListN.{length, replicate, length-map}
 use Rattle.lists.specs.Lists.{All}
 use Rattle.expression.specs.Limits.{depthLimit}
 use Rattle.tables.specs.Definitions.{Pair}
+use Rattle.values.specs.declared.Value.{Value}
+use Rattle.values.specs.Values.{noValue}
 use Rattle.decisions.specs.Decisions.{newest}
-use Rattle.rows.specs.Parts.{zeros}
 use Rattle.entries.specs.declared.Carry.the-variants.{Nothing}
 use Rattle.entries.specs.Carries.{Entry}
 use Rattle.workspace.specs.Workspace.{workspaceOf, Sound, pairsOf, valuesOf, HeldValues, Holds, countsOf}
@@ -17,7 +18,7 @@ use Rattle.walks.specs.Walks.{Stands, Advanced}
 
 -- a table of pairs with nothing beside them
 abbrev pub bare : List Pair → List Entry
-bare t = map (λ x. record { item = x; value = 0 }) t
+bare t = map (λ x. record { item = x; value = noValue }) t
 
 bare-pairs : (t : List Pair) → pairsOf (bare t) ≡ t
 bare-pairs [] = refl
@@ -31,9 +32,9 @@ pub newest-pairs : (us : List (List Entry)) → newest (map pairsOf us) ≡ pair
 newest-pairs [] = refl
 newest-pairs (u ∷ us) = refl
 
-bare-values : (t : List Pair) → zeros (length (bare t)) ≡ valuesOf (bare t)
+bare-values : (t : List Pair) → replicate (length (bare t)) noValue ≡ valuesOf (bare t)
 bare-values [] = refl
-bare-values (x ∷ t) = ap {B = List ℕ} (λ u. 0 ∷ u) (bare-values t)
+bare-values (x ∷ t) = ap {B = List Value} (λ u. noValue ∷ u) (bare-values t)
 
 -- no word of values is looked at
 held-bare : (p : ℕ) (ts : List (List Pair)) (vals : List ℕ) → HeldValues Nothing p (map bare ts) vals

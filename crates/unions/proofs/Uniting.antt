@@ -8,12 +8,13 @@ use Rattle.lists.specs.Lists.{All, products}
 use Rattle.lists.proofs.Members.{all-drop, map-drop, products-at, all-products}
 use Rattle.labels.specs.Labels.{labelCount}
 use Rattle.tables.specs.Definitions.{pairs, unitePairs}
-use Rattle.values.specs.Values.{valued}
+use Rattle.values.specs.declared.Value.{Value}
+use Rattle.values.specs.Values.{valued, noValue}
 use Rattle.candidates.specs.Candidates.{pairOf}
 use Rattle.rows.specs.Parts.{part}
 use Rattle.rows.specs.Rows.{Rows}
 use Rattle.entries.specs.declared.Carry.{Carry}
-use Rattle.entries.specs.declared.Carry.the-variants.{Nothing, First}
+use Rattle.entries.specs.declared.Carry.the-variants.{Nothing, First, Consequences}
 use Rattle.entries.specs.Carries.{carriedBy, Keeps, valuesIn, Beside, Entry, entryAlgebra}
 use Rattle.entries.proofs.Entering.{none}
 use Rattle.making.specs.Making.{FitEntry, entryAt, entriesAt}
@@ -21,19 +22,19 @@ use Rattle.making.proofs.Held.{entries-long, entry-at, entries-from}
 use Rattle.unions.specs.Unions.{unitedAt}
 
 -- one entry with each of the n entries of the area at word b
-module _ (carry : Carry) (w p b n : ℕ) (others wsₛ : List ℕ) (within : b + p * w ≤ length wsₛ) (t : Rows w p n (part b (p * w) wsₛ)) (beside : Beside carry n others) (ra va : ℕ) where
+module _ (carry : Carry) (w p b n : ℕ) (others wsₛ : List ℕ) (within : b + p * w ≤ length wsₛ) (t : Rows w p n (part b (p * w) wsₛ)) (beside : Beside carry n others) (ra : ℕ) (va : Value) where
   abbrev bs : List Entry
   bs = entriesAt carry w p b n others wsₛ
 
   abbrev unite : Entry → Entry
   unite = entryAlgebra labelCount carry .united (entryAt w ra va wsₛ)
 
-  module _ (j : ℕ) (l : j < n) (v : ℕ) (ev : v ≡ carriedBy carry .together va (getD (valuesIn carry n others) j 0)) (ws : List ℕ)
+  module _ (j : ℕ) (l : j < n) (v : Value) (ev : v ≡ carriedBy carry .together va (getD (valuesIn carry n others) j noValue)) (ws : List ℕ)
       (ea : part ra w ws ≡ part ra w wsₛ) (eb : part (b + j * w) w ws ≡ part (b + j * w) w wsₛ) where
     candidate : unite (getD bs j none) ≡ unitedAt w ra (b + j * w) v ws
     unfolding entryAlgebra valued pairs
     candidate =
-        ap unite (entry-at carry w p b n others wsₛ within t beside j l (getD (valuesIn carry n others) j 0) refl ws eb)
+        ap unite (entry-at carry w p b n others wsₛ within t beside j l (getD (valuesIn carry n others) j noValue) refl ws eb)
         ∙ (λ i. record { item = unitePairs (pairOf (sym ea i)) (pairOf (part (b + j * w) w ws)); value = sym ev i })
 
     pub next-is : map unite (drop j bs) ≡ unitedAt w ra (b + j * w) v ws ∷ map unite (drop (j + 1) bs)
@@ -45,7 +46,7 @@ module _ (carry : Carry) (w p b n : ℕ) (others wsₛ : List ℕ) (within : b +
 
 -- the na entries of one table with each of the others, bs, which are as they were
 module _ (carry : Carry) (w p a na : ℕ) (left wsₛ : List ℕ) (within : a + p * w ≤ length wsₛ) (t : Rows w p na (part a (p * w) wsₛ)) (beside : Beside carry na left)
-    (bs bs′ : List Entry) (same : bs′ ≡ bs) (i : ℕ) (l : i < na) (va : ℕ) (ev : va ≡ getD (valuesIn carry na left) i 0) (ws : List ℕ) (ea : part (a + i * w) w ws ≡ part (a + i * w) w wsₛ) where
+    (bs bs′ : List Entry) (same : bs′ ≡ bs) (i : ℕ) (l : i < na) (va : Value) (ev : va ≡ getD (valuesIn carry na left) i noValue) (ws : List ℕ) (ea : part (a + i * w) w ws ≡ part (a + i * w) w wsₛ) where
   abbrev xs : List Entry
   xs = entriesAt carry w p a na left wsₛ
 
@@ -72,6 +73,7 @@ unfolding products
 no-products f xs ys e = ap (λ (l : List Entry). products f l ys) e
 
 -- the value of two entries together is one that words keep
-pub keeps-together : (carry : Carry) (a b : ℕ) → Keeps carry (carriedBy carry .together a b)
+pub keeps-together : (carry : Carry) (a b : Value) → Keeps carry (carriedBy carry .together a b)
 keeps-together Nothing a b = refl
-keeps-together First a b = tt
+keeps-together First a b = refl
+keeps-together Consequences a b = tt

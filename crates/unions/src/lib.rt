@@ -1,5 +1,6 @@
 // The union of two tables.
 use entries::Carry;
+use values::Value;
 ghost use mathlib.Core.Path.{_≡_};
 ghost use mathlib.Core.List.{[], _∷_, map};
 ghost use Prim.Native.Nat.{_+_, _-_, _*_, _≤_, _<_};
@@ -27,7 +28,7 @@ pub fn unite_entry(
     rb: usize,
     to: usize,
     m: usize,
-    v: u64,
+    v: Value,
 ) -> usize
     requires { ⌜ (2 ≤ w) × (w ≤ 4096) × (p ≤ 1024) × (length (now row) ≡ w) ⌝ }
     requires { ⌜ (ra + w ≤ length (now ws)) × (rb + w ≤ length (now ws)) × (to + p * w ≤ length (now ws)) ⌝ }
@@ -54,7 +55,7 @@ pub fn unite_with_all(
     w: usize,
     p: usize,
     ra: usize,
-    va: u64,
+    va: Value,
     b: usize,
     n: usize,
     to: usize,

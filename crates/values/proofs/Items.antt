@@ -15,7 +15,7 @@ use Rattle.semantics.proofs.Interpretations.{Agree, Apart, Distinct, obeying-in
 use Rattle.tables.specs.Algebras.{Algebra, entries, entry, leaf, table}
 use Rattle.tables.proofs.Entries.{entry-agree}
 use Rattle.tables.proofs.Morphisms.{Morphism, map-canon, table-map}
-use Rattle.values.specs.Values.{Values, Valued, valued, valueOf}
+use Rattle.values.specs.Values.{Values, Valued, valued, valueOf, lowWords, lowered}
 use Rattle.values.proofs.Semirings.{Semiring}
 
 -- ---- the entries of a table with values are the table
@@ -42,6 +42,20 @@ module _ {X W : Type 0} (A : Algebra X) (R : Values W) (keeps : (x y : X) → A 
 
   pub items-table : (o : Assumptions) (e : Expr) → items (table (valued A R) o e) ≡ table A o e
   items-table o e = table-map (item-morphism A R keeps) o e
+
+-- the numbers in the low words of a table's values are the values of its table with numbers
+pub low-morphism : {X : Type 0} (A : Algebra X) (R : Values ℕ) → Morphism (valued A (lowWords R)) (valued A R) lowered
+unfolding valued
+low-morphism A R = record {
+  present = λ c g. refl;
+  absent = λ c g. refl;
+  unmet = λ g. refl;
+  united = λ x y. refl;
+  relabelled = λ i j x. refl;
+  connected = λ k i j x. refl;
+  order = λ x y. refl;
+  merge = λ x y. refl;
+}
 
 -- ---- the entry of an interpretation has the interpretation's value
 

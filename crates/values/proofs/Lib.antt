@@ -3,3 +3,4 @@ pub mod Items
 pub mod Sums
 pub mod First
 pub mod Words
+pub mod Consequences

@@ -6,6 +6,7 @@ use Rattle.semantics.specs.Expressions.{Expr}
 use Rattle.semantics.specs.Programs.{numbers}
 use Rattle.semantics.specs.AnswerSets.{Interpretation, ofList}
 use Rattle.tables.specs.Algebras.{Algebra, entry}
+use Rattle.values.specs.declared.Value.{Value}
 
 -- the value of no atom; of two interpretations, one or the other; of two parts of one interpretation; of an atom that is in; of one that is out
 pub record Values (W : Type 0) : Type 0 where
@@ -36,6 +37,28 @@ valued A R = record {
 unfoldable pub valueOf : {W : Type 0} → Values W → List ℕ → Interpretation → W
 valueOf R [] p = R .unit
 valueOf R (c ∷ cs) p = R .together (cond (p c) (R .present c) (R .absent c)) (valueOf R cs p)
+
+-- ---- values in words
+
+abbrev pub noValue : Value
+noValue = record { high = 0; low = 0 }
+
+abbrev pub inLow : ℕ → Value
+inLow x = record { high = 0; low = x }
+
+-- numbers as low words keep them
+abbrev pub lowWords : Values ℕ → Values Value
+lowWords R = record {
+  unit = inLow (R .unit);
+  either = λ a b. inLow (R .either (a .low) (b .low));
+  together = λ a b. inLow (R .together (a .low) (b .low));
+  present = λ c. inLow (R .present c);
+  absent = λ c. inLow (R .absent c);
+}
+
+-- an entry with the number in the low word of its value
+abbrev pub lowered : {X : Type 0} → Valued X Value → Valued X ℕ
+lowered x = record { item = x .item; value = x .value .low }
 
 -- ---- sums: of none there is no value
 

@@ -1,5 +1,5 @@
 -- A command on tables that stand with their counts. Assumes nothing.
-use mathlib.Core.Path.{_≡_, refl, sym, ap, _∙_, subst}
+use mathlib.Core.Path.{_≡_, sym, ap, _∙_, subst}
 use mathlib.Core.List.{List}
 use Prim.Native.Nat.{ℕ, _+_, _-_, _*_, _≤_, _<_}
 use native.Mathlib.Omega.{arith}
@@ -12,7 +12,6 @@ use Rattle.decisions.specs.Decisions.{newest}
 use Rattle.rows.specs.Parts.{zeros}
 use Rattle.rows.proofs.Parts.{zeros-long}
 use Rattle.entries.specs.declared.Carry.{Carry}
-use Rattle.entries.specs.declared.Carry.the-variants.{Nothing, First}
 use Rattle.entries.specs.Carries.{Entry, Beside}
 use Rattle.workspace.specs.Workspace.{stackCounts, countsOf, Acted}
 use Rattle.stacks.specs.Stacks.{countBelow, Applies, tallied}
@@ -22,8 +21,7 @@ use Rattle.walks.specs.Walks.{Stands, Advanced}
 
 -- values as many as before
 pub beside-as : (carry : Carry) (n : ℕ) (vals vals' : List ℕ) → length vals' ≡ length vals → Beside carry n vals → Beside carry n vals'
-beside-as Nothing n vals vals' e h = tt
-beside-as First n vals vals' e h = omega (arith, e)
+beside-as carry n vals vals' e h = omega (arith, e, h)
 
 counts-all : {X : Type 0} (n : ℕ) (ts : List (List X)) → length ts ≤ n → length (countsOf n ts) ≡ n
 unfolding countsOf

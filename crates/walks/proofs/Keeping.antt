@@ -3,7 +3,7 @@ use mathlib.Core.Path.{_≡_, refl, sym, _∙_, subst}
 use mathlib.Core.List.{List, [], _∷_, map}
 use Prim.Native.Nat.{ℕ, zero, suc, _+_, _-_, _^_, _≤_, _<_}
 use native.Mathlib.Omega.{arith}
-use lib.ListN.{length, take, drop, getD, length-map}
+use lib.ListN.{length, take, drop, getD, replicate, length-map}
 use Rattle.lists.specs.Lists.{All}
 use Rattle.lists.specs.Sorted.{compareNumbers, second, Rising, setOf}
 use Rattle.lists.proofs.Canon.{length-canon, length-canon-map}
@@ -14,11 +14,12 @@ use Rattle.expression.specs.Limits.{depthLimit}
 use Rattle.semantics.specs.Expressions.{Operations, act, changeNewest}
 use Rattle.tables.specs.Definitions.{Pair, subsets}
 use Rattle.decisions.specs.Decisions.{newest, pairsFault}
-use Rattle.rows.specs.Parts.{zeros}
+use Rattle.values.specs.declared.Value.{Value}
+use Rattle.values.specs.Values.{noValue, inLow}
 use Rattle.rows.specs.Rows.{Fit}
 use Rattle.batches.specs.Batches.{step, steps, cleaned, batchPair}
 use Rattle.entries.specs.declared.Carry.{Carry}
-use Rattle.entries.specs.declared.Carry.the-variants.{Nothing, First}
+use Rattle.entries.specs.declared.Carry.the-variants.{Nothing, First, Consequences}
 use Rattle.entries.specs.Carries.{Entry, entryAlgebra, valuesIn}
 use Rattle.making.specs.Making.{tableOfAll, FitEntry}
 use Rattle.maps.specs.Maps.{batched, batchedTable, Small}
@@ -65,7 +66,7 @@ module _ (carry : Carry) (w p : ℕ) where
   }
 
   -- a rule's table can be kept
-  pub one-sound : 2 ≤ w → 1 ≤ p → (q v : ℕ) → Sound w p (pairsOf (record { item = q ∷ []; value = v } ∷ []))
+  pub one-sound : 2 ≤ w → 1 ≤ p → (q : ℕ) (v : Value) → Sound w p (pairsOf (record { item = q ∷ []; value = v } ∷ []))
   unfolding Fit Rising
   one-sound a b q v = record { few = b; fit = ((omega arith, omega arith), tt); rising = (tt, tt); ordered = (tt, tt) }
 
@@ -85,17 +86,27 @@ bounded-take zero l h = tt
 bounded-take (suc n) [] h = tt
 bounded-take (suc n) (x ∷ l) h = (h 0, bounded-take n l (λ j. h (suc j)))
 
-all-zero : (n : ℕ) → All (λ v. v ≡ 0) (zeros n)
-all-zero zero = tt
-all-zero (suc n) = (refl, all-zero n)
+all-none : (n : ℕ) → All (λ (v : Value). v ≡ noValue) (replicate n noValue)
+all-none zero = tt
+all-none (suc n) = (refl, all-none n)
 
-of-values : (P : ℕ → Type 0) (t : List Entry) → All P (valuesOf t) → All (λ x. P (x .value)) t
+all-low : (l : List ℕ) → All (λ v. v < 2 ^ 64) l → All (λ (v : Value). (v .high ≡ 0) × (v .low < 2 ^ 64)) (map inLow l)
+all-low [] h = tt
+all-low (x ∷ l) h = ((refl, h .0), all-low l (h .1))
+
+all-any : (t : List Entry) → All (λ x. Unit {0}) t
+all-any [] = tt
+all-any (x ∷ t) = (tt, all-any t)
+
+of-values : (P : Value → Type 0) (t : List Entry) → All P (valuesOf t) → All (λ x. P (x .value)) t
 of-values P [] h = tt
 of-values P (x ∷ t) h = (h .0, of-values P t (h .1))
 
 small-values : (carry : Carry) (o : ℕ) (vals : List ℕ) (t : List Entry) → ((i : ℕ) → getD vals i 0 < 2 ^ 64) → valuesIn carry (length t) (drop o vals) ≡ valuesOf t → All (Small carry) t
-small-values Nothing o vals t h e = of-values (λ v. v ≡ 0) t (subst (All (λ v. v ≡ 0)) e (all-zero (length t)))
-small-values First o vals t h e = of-values (λ v. v < 2 ^ 64) t (subst (All (λ v. v < 2 ^ 64)) e (bounded-take (length t) (drop o vals) (bounded-drop o vals h)))
+small-values Nothing o vals t h e = of-values (λ v. v ≡ noValue) t (subst (All (λ (v : Value). v ≡ noValue)) e (all-none (length t)))
+small-values First o vals t h e =
+    of-values (λ v. (v .high ≡ 0) × (v .low < 2 ^ 64)) t (subst (All (λ (v : Value). (v .high ≡ 0) × (v .low < 2 ^ 64))) e (all-low (take (length t) (drop o vals)) (bounded-take (length t) (drop o vals) (bounded-drop o vals h))))
+small-values Consequences o vals t h e = all-any t
 
 pub small-newest : (carry : Carry) (p : ℕ) (ts : List (List Entry)) (vals : List ℕ) → ((i : ℕ) → getD vals i 0 < 2 ^ 64) → HeldValues carry p ts vals → All (Small carry) (newest ts)
 small-newest carry p [] vals h g = tt

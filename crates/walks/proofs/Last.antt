@@ -9,8 +9,8 @@ use Rattle.decisions.specs.Decisions.{newest}
 use Rattle.rows.specs.Parts.{part}
 use Rattle.rows.specs.Rows.{Rows}
 use Rattle.entries.specs.declared.Carry.{Carry}
-use Rattle.entries.specs.declared.Carry.the-variants.{Nothing, First}
-use Rattle.entries.specs.Carries.{Entry, Beside}
+use Rattle.entries.specs.Carries.{Entry, inWords, Beside}
+use Rattle.entries.proofs.Keeping.{in-rising}
 use Rattle.making.specs.Making.{entriesAt}
 use Rattle.workspace.specs.Workspace.{valuesFrom}
 use Rattle.stacks.specs.Stacks.{countBelow}
@@ -33,21 +33,10 @@ module _ {carry : Carry} {w p : ℕ} {us : List (List Entry)} {beyond ws vals co
   last-rows = stands-rows S 0 n first-area many
 
   first-values : 0 ≡ valuesFrom carry p (t - 1)
-  first-values = step carry
-    where
-      step : (c : Carry) → 0 ≡ valuesFrom c p (t - 1)
-      step Nothing = refl
-      step First = let z : t - 1 ≡ 0 = omega (arith, one) in sym (ap (λ (i : ℕ). i * p) z ∙ omega arith)
+  first-values = let z : t - 1 ≡ 0 = omega (arith, one) in sym (ap (λ (i : ℕ). i * inWords carry p) z ∙ omega arith)
 
   pub last-beside : Beside carry (depthLimit * p) vals → Beside carry n vals
-  last-beside b = step carry b
-    where
-      few : n ≤ p
-      few = stands-few S 0 n first-area many
-
-      step : (c : Carry) → Beside c (depthLimit * p) vals → Beside c n vals
-      step Nothing b = tt
-      step First b = omega (arith, few)
+  last-beside b = omega (arith, b, in-rising carry n (depthLimit * p) (omega (arith, stands-few S 0 n first-area many)))
 
   pub last-entries : entriesAt carry w p 0 n vals ws ≡ newest us
   last-entries = stands-entries S 0 n first-area many 0 first-values

@@ -22,7 +22,6 @@ use Rattle.values.specs.Values.{valued}
 use Rattle.decisions.specs.Decisions.{walk, commandsIn, assumed, pairsFault}
 use Rattle.decisions.proofs.Carried.{valuedWalk}
 use Rattle.entries.specs.declared.Carry.{Carry}
-use Rattle.entries.specs.declared.Carry.the-variants.{Nothing, First}
 use Rattle.entries.specs.Carries.{carriedBy}
 use Rattle.leaves.specs.declared.Tables.{Tables}
 use Rattle.leaves.specs.declared.Tables.the-variants.{Plain, Pairs}

@@ -15,8 +15,7 @@ use Rattle.rows.proofs.Tables.{rows-of}
 use Rattle.entries.specs.declared.Carry.{Carry}
 use Rattle.entries.specs.Carries.{Entry, valuesIn, Beside, Kept}
 use Rattle.entries.specs.Entries.{withValues}
-use Rattle.entries.proofs.Keeping.{kept-beside}
-use Rattle.entries.proofs.Entering.{values-long}
+use Rattle.entries.proofs.Keeping.{kept-beside, values-long}
 use Rattle.making.specs.Making.{tableOfAll, Finished, entriesAt}
 use Rattle.workspace.specs.Workspace.{workspaceOf, Sound, pairsOf, valuesOf, valuesFrom, HeldValues, Holds, placed, faultOf, Acted}
 use Rattle.workspace.proofs.Values.{placed-new, values-stay, with-both, values-with}

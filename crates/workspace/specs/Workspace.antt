@@ -9,12 +9,12 @@ use Rattle.lists.specs.Lists.{All}
 use Rattle.lists.specs.Sorted.{compareNumbers, compareLists, Rising}
 use Rattle.expression.specs.Refusals.{subsetsFull, plansFull}
 use Rattle.tables.specs.Definitions.{Pair, subsets}
+use Rattle.values.specs.declared.Value.{Value}
 use Rattle.decisions.specs.Decisions.{pairsFault, newest}
 use Rattle.rows.specs.Parts.{put, zeros}
 use Rattle.rows.specs.Rows.{Fit, tableOf}
 use Rattle.entries.specs.declared.Carry.{Carry}
-use Rattle.entries.specs.declared.Carry.the-variants.{Nothing, First}
-use Rattle.entries.specs.Carries.{Entry, valuesIn}
+use Rattle.entries.specs.Carries.{Entry, inWords, valuesIn}
 
 -- the areas of the tables; the newest is first in the list and last in the words
 unfoldable pub stackWords : ℕ → ℕ → List (List Pair) → List ℕ
@@ -36,13 +36,12 @@ pub record Sound (w p : ℕ) (t : List Pair) : Type 0 where
 abbrev pub pairsOf : List Entry → List Pair
 pairsOf t = map (λ x. x .item) t
 
-abbrev pub valuesOf : List Entry → List ℕ
+abbrev pub valuesOf : List Entry → List Value
 valuesOf t = map (λ x. x .value) t
 
--- where the values of the i-th table begin: p words for each table
+-- where the values of the i-th table begin: each table has the words of p values
 abbrev pub valuesFrom : Carry → ℕ → ℕ → ℕ
-valuesFrom Nothing p i = 0
-valuesFrom First p i = i * p
+valuesFrom carry p i = i * inWords carry p
 
 -- the values of each table stand there
 abbrev pub HeldValues : Carry → ℕ → List (List Entry) → List ℕ → Type 0
@@ -66,8 +65,7 @@ countsOf k ts = stackCounts ts ++ zeros (k - length ts)
 
 -- the values with r new ones at word o
 abbrev pub placed : Carry → ℕ → ℕ → List ℕ → List ℕ → List ℕ
-placed Nothing o r new vals = vals
-placed First o r new vals = put o r vals (take r new)
+placed carry o r new vals = put o (inWords carry r) vals (take (inWords carry r) new)
 
 -- 15, then 16, or 0, by the count that a command answers: p + 2 where a pair has too many subsets, p + 1 where there are too many pairs
 unfoldable pub faultOf : ℕ → ℕ → ℕ

@@ -26,11 +26,7 @@ pub fn move_values(vals: &mut [u64], made: &mut [u64], carry: Carry, p: usize, i
     requires { ⌜ Kept carry p r (now made) × Beside carry (i * p + p) (now vals) × (r ≤ p) ⌝ }
     ensures { λ _. ⌜ Kept carry p 0 (now (made .exit)) × (now (vals .exit) ≡ placed carry (valuesFrom carry p i) r (now (made .entry)) (now (vals .entry))) ⌝ }
 {
-    match carry {
-        Carry::Nothing => {}
-        Carry::First => {
-            let o = i * p;
-            move_words(&mut vals[o..o + r], &mut made[..r]);
-        }
-    }
+    let o = i * made.len();
+    let n = entries::words_of(carry, r);
+    move_words(&mut vals[o..o + n], &mut made[..n]);
 }

@@ -12,8 +12,8 @@ enum-told c = search needs
 enum-known-best : tie.Need-enum-known-best
 enum-known-best c = search needs
 
-either-requires : tie.Need-either-requires
-either-requires c κs = search needs
+lesser-requires : tie.Need-lesser-requires
+lesser-requires c κs = search needs
 
 returns : tie.Need-returns
 unfolding add
@@ -21,7 +21,7 @@ returns c = rw (c .enum-told .given .1)
 
 returns-2 : tie.Need-returns-2
 unfolding add firsts leastBy
-returns-2 c = rw (c .before .before .best .given .1) (ap worth (c .either .ensures))
+returns-2 c = rw (c .before .before .best .given .1) (ap worth (c .lesser .ensures))
 
 pub with-value-spec : {M : Type 1} → statement M
-with-value-spec = tie.close (tie.spec enum-told enum-known-best either-requires returns returns-2)
+with-value-spec = tie.close (tie.spec enum-told enum-known-best lesser-requires returns returns-2)

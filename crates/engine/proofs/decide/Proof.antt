@@ -3,8 +3,10 @@ use mathlib.Core.Path.{_≡_, refl, sym, ap, _∙_, subst}
 use mathlib.Core.List.{List, [], map}
 use Prim.Native.Nat.{ℕ, _+_, _*_, _≤_}
 use lib.ListN.{length}
+use Rattle.labels.specs.Labels.{labelCount}
 use Rattle.expression.specs.Limits.{depthLimit}
 use Rattle.semantics.specs.AnswerSets.{byMasks}
+use Rattle.tables.specs.Definitions.{accepting}
 use Rattle.leaves.proofs.Writing.{wide-two}
 use Rattle.workspace.specs.Workspace.{pairsOf}
 use Rattle.stacks.proofs.Clearing.{holds-counted}
@@ -12,7 +14,8 @@ use Rattle.walks.specs.declared.Reached.{Reached}
 use Rattle.walks.specs.declared.Reached.the-variants.{Stopped, Through}
 use Rattle.walks.specs.Walks.{Stands, Reaches}
 use Rattle.walks.proofs.Advancing.{beside-as, counts-reach}
-use Rattle.engine.specs.Engine.{leastOf, Decides}
+use Rattle.engine.specs.Engine.{Decides}
+use Rattle.answers.specs.Answers.{leastOf}
 use Rattle.walks.proofs.Clear.{behind, stands-clear, all-clear}
 use Rattle.walks.proofs.Last.{last-rows, last-beside, last-entries}
 use Rattle.engine.proofs.Deciding.{found-decides}
@@ -99,7 +102,7 @@ least-accepting-requires c κs =
     let R = through e in
     let n = c .before .before .count-below in
     let t = e .r2 .given .0 .0 in
-    (omega (arith, s .pre .1 .1 .1, s .pre .1 .1 .2, long u), last-rows (R .2) t (R .3) (R .4 refl) (n .result) (n .ensures), last-beside (R .2) t (R .3) (R .4 refl) (n .result) (n .ensures) (beside-as (s .args .carry) (depthLimit * s .args .p) (s .args .vals .now) _ (u .walk .kept .1 .1 .1 .1 .1 .1 .0) (s .pre .1 .0 .1)))
+    (omega (arith, s .pre .1 .1 .1, s .pre .1 .1 .2, long u), last-rows (R .2) t (R .3) (R .4 refl) (n .result) (n .ensures), last-beside (R .2) t (R .3) (R .4 refl) (n .result) (n .ensures) (beside-as (s .args .carry) (depthLimit * s .args .p) (s .args .vals .now) (u .walk .last .1 .1 .1 .1 .1 .1 .0) (u .walk .kept .1 .1 .1 .1 .1 .1 .0) (s .pre .1 .0 .1)))
 
 clear-tables-requires-2 : tie.Need-clear-tables-requires-2
 clear-tables-requires-2 c κs =
@@ -168,7 +171,7 @@ returns-2 c =
     let n = c .before .before .before .before .before .before .before .before .before .count-below in
     let t = e .r2 .given .0 .0 in
     let o = byMasks (s .args .assumed-true) (s .args .assumed-false) in
-    (subst (Decides (s .args .kind) (s .args .carry) o (s .args .w) (s .args .p) (s .args .s .now)) (sym (c .outcome-of .ensures)) (found-decides (s .args .kind) (s .args .carry) o (s .args .w) (s .args .p) (s .args .s .now) (R .0) (R .1) (l .least-accepting .result) (l .least-accepting .ensures ∙ ap leastOf (last-entries (R .2) t (R .3) (R .4 refl) (n .result) (n .ensures)))), all-clear (s .args .w) (s .args .p) (s .args .need) (s .args .ws .now) (s .pre .1 .1 .2) _ (d .clear-tables2 .ensures (depthLimit + 1) (map pairsOf (R .0)) (back (origin u)) (holds-counted depthLimit (R .2 .holds) (R .3) (R .2 .tallies))))
+    (subst (Decides (s .args .kind) (s .args .carry) o (s .args .w) (s .args .p) (s .args .s .now)) (sym (c .outcome-of .ensures)) (found-decides (s .args .kind) (s .args .carry) o (s .args .w) (s .args .p) (s .args .s .now) (R .0) (R .1) (l .least-accepting .result) (l .least-accepting .ensures ∙ ap (leastOf (accepting labelCount)) (last-entries (R .2) t (R .3) (R .4 refl) (n .result) (n .ensures)))), all-clear (s .args .w) (s .args .p) (s .args .need) (s .args .ws .now) (s .pre .1 .1 .2) _ (d .clear-tables2 .ensures (depthLimit + 1) (map pairsOf (R .0)) (back (origin u)) (holds-counted depthLimit (R .2 .holds) (R .3) (R .2 .tallies))))
 
 pub decide-spec : {M : Type 1} → statement M
 decide-spec =

@@ -8,10 +8,9 @@ use borrow.Author.Needs.{needs}
 use Rattle.engine.proofs.decide_in.Statement.{statement}
 use Rattle.engine.proofs.decide_in.Tie as tie
 use Rattle.engine.proofs.decide.Reads as decide-reads
-use Rattle.engine.proofs.value_words.Reads as value-words-reads
 
-value-words-requires : tie.Need-value-words-requires
-value-words-requires c κs = search needs
+words-of-requires : tie.Need-words-of-requires
+words-of-requires c κs = search needs
 
 slice-relend-prefix-decide : tie.Need-slice-relend-prefix-decide
 slice-relend-prefix-decide c = search needs
@@ -25,12 +24,12 @@ slice-relend-prefix-decide-2 c = search needs
 
 slice-aggregate-decide-2 : tie.Need-slice-aggregate-decide-2
 slice-aggregate-decide-2 c =
-    let s = c .before .before .before .before .before .before .before .before .before .before .before .before in sym (length-take-le _ (s .args .made .now) (omega (arith, c .before .before .before .before .value-words .ensures, s .pre .1 .0 .1)))
+    let s = c .before .before .before .before .before .before .before .before .before .before .before .before in sym (length-take-le _ (s .args .made .now) (omega (arith, c .before .before .before .before .words-of .ensures, s .pre .1 .0 .1)))
 
 decide-requires : tie.Need-decide-requires
 decide-requires c κs =
     let s = c .before .before .before .before .before .before .before .before .before .before .before .before .before .before in
-    let v = c .before .before .before .before .before .before .value-words in
+    let v = c .before .before .before .before .before .before .words-of in
     ((s .pre .0 .0, s .pre .0 .1, s .pre .0 .2, s .pre .0 .3, length-take-le (s .args .w) (s .args .row .now) (s .pre .0 .4), s .pre .0 .5), ((kept-none (s .args .carry) (s .args .p) (v .result) (s .args .made .now) (s .pre .1 .0 .0) (s .pre .1 .0 .1) (v .ensures), s .pre .1 .0 .2, s .pre .1 .0 .3), s .pre .1 .1))
 
 same-length : tie.Need-same-length
@@ -58,7 +57,7 @@ pub decide-in-spec : {M : Type 1} → statement M
 decide-in-spec =
     tie.close
     (tie.spec
-    value-words-requires
+    words-of-requires
     slice-relend-prefix-decide
     slice-aggregate-decide
     slice-relend-prefix-decide-2

@@ -25,7 +25,7 @@ slice-aggregate-decide-in-5 c = search needs
 decide-in-requires : tie.Need-decide-in-requires
 decide-in-requires c κs =
     let s = c .before .before .before .before .before .before .before .before in
-    ((omega arith, omega arith, s .pre .0 .0, s .pre .0 .1, omega arith, s .pre .0 .1), ((refl, omega arith, tt, refl), s .pre .1))
+    ((omega arith, omega arith, s .pre .0 .0, s .pre .0 .1, omega arith, s .pre .0 .1), ((refl, omega arith, omega arith, refl), s .pre .1))
 
 same-length : tie.Need-same-length
 same-length c = search needs

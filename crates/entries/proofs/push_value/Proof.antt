@@ -1,15 +1,14 @@
 -- `entries::push_value`: by what is carried.
-use mathlib.Core.Path.{refl}
 use lib.ListN.{length}
-use Prim.Native.Nat.{_+_, _≤_}
-use Rattle.entries.proofs.Keeping.{first-long, first-pushed, nothing-pushed}
+use Prim.Native.Nat.{_*_, _≤_}
+use Rattle.entries.proofs.Keeping.{nothing-pushed, first-pushed, both-entered}
+use native.Mathlib.Omega.{arith}
 use borrow.Author.Needs.{needs}
 use Rattle.entries.proofs.push_value.Statement.{statement}
 use Rattle.entries.proofs.push_value.Tie as tie
-use native.Mathlib.Omega.{arith}
 
-within : (c : tie.After-enum-told2) → c .before .before .before .args .m + 1 ≤ length (c .before .before .before .args .vals .now)
-within c = let s = c .before .before .before in omega (arith, first-long _ _ _ _ (c .enum-told2 .given .1) (s .pre .0 .0))
+both-within : (c : tie.After-enum-told3) → 2 * c .before .before .before .args .p ≤ length (c .before .before .before .args .vals .now)
+both-within c = let s = c .before .before .before in omega (arith, (rw (c .enum-told3 .given .1) at (s .pre .0 .0)) .1)
 
 enum-told : tie.Need-enum-told
 enum-told c = search needs
@@ -17,32 +16,52 @@ enum-told c = search needs
 enum-told-2 : tie.Need-enum-told-2
 enum-told-2 c = search needs
 
-add-push-front : tie.Need-add-push-front
-add-push-front c = search needs
+push-word-requires : tie.Need-push-word-requires
+push-word-requires c κs =
+    let e = c .before in
+    let s = e .before .before .before in
+    (rw (e .enum-told2 .given .1) at (s .pre .0 .0), s .pre .1 .0, s .pre .1 .1)
 
-mul-push-front : tie.Need-mul-push-front
-mul-push-front c = omega (arith, within c)
+enum-told-3 : tie.Need-enum-told-3
+enum-told-3 c = search needs
 
-sub-push-front : tie.Need-sub-push-front
-sub-push-front c = search needs
+mul-push-both : tie.Need-mul-push-both
+mul-push-both c = omega (arith, both-within (c .before))
 
-part-push-front-start : tie.Need-part-push-front-start
-part-push-front-start c = search needs
+mul-push-both-2 : tie.Need-mul-push-both-2
+mul-push-both-2 c = omega (arith, both-within (c .before), c .before .before .before .before .pre .1)
 
-part-push-front-end : tie.Need-part-push-front-end
-part-push-front-end c = omega (arith, within c)
+mul-push-both-3 : tie.Need-mul-push-both-3
+mul-push-both-3 c = omega (arith, both-within (c .before), c .before .before .before .before .pre .1)
 
-push-front-requires : tie.Need-push-front-requires
-push-front-requires c κs = search needs
+push-both-requires : tie.Need-push-both-requires
+push-both-requires c κs =
+    let e = c .before in
+    let s = e .before .before .before in
+    (rw (e .enum-told3 .given .1) at (s .pre .0 .0), omega (arith, s .pre .1 .0), omega (arith, s .pre .1 .1))
 
 returns : tie.Need-returns
-returns c = let s = c .before .before .before in nothing-pushed (s .args .carry) _ _ _ _ _ (c .enum-told .given .1) (s .pre .0 .0) (s .pre .0 .1) (s .pre .1 .0)
+returns c = let s = c .before .before .before in rw (c .enum-told .given .1) (nothing-pushed (s .args .p) (s .args .m) (s .args .k) (s .args .v) (s .args .vals .now) (rw (c .enum-told .given .1) at (s .pre .0 .0)) (rw (c .enum-told .given .1) at (s .pre .0 .1)) (s .pre .1 .0))
 
 same-length : tie.Need-same-length
 same-length c = search needs
 
 returns-2 : tie.Need-returns-2
-returns-2 c = let s = c .before .before .before .before .before .before .before in first-pushed (s .args .carry) _ _ _ _ _ _ _ (c .before .before .before .before .enum-told2 .given .1) (s .pre .0 .0) (s .pre .1 .0) (s .pre .1 .1) (c .before .before .push-front .ensures) refl
+returns-2 c =
+    let w = c .before .before in
+    let e = w .before .before in
+    let s = e .before .before .before in
+    rw (e .enum-told2 .given .1) (w .push-word .ensures .0, first-pushed (s .args .m) (s .args .k) (s .args .v) (s .args .vals .now) (w .push-word .last .0) (rw (e .enum-told2 .given .1) at (s .pre .0 .1)) (w .push-word .ensures .1))
+
+same-length-2 : tie.Need-same-length-2
+same-length-2 c = search needs
+
+returns-3 : tie.Need-returns-3
+returns-3 c =
+    let w = c .before .before in
+    let e = w .before .before in
+    let s = e .before .before .before in
+    rw (e .enum-told3 .given .1) (both-entered (s .args .p) (s .args .m) (s .args .k) (s .args .v) (s .args .vals .now) (w .push-both .last .0) (rw (e .enum-told3 .given .1) at (s .pre .0 .0)) (s .pre .1 .0) (s .pre .1 .1) (w .push-both .ensures))
 
 pub push-value-spec : {M : Type 1} → statement M
 push-value-spec =
@@ -50,12 +69,14 @@ push-value-spec =
     (tie.spec
     enum-told
     enum-told-2
-    add-push-front
-    mul-push-front
-    sub-push-front
-    part-push-front-start
-    part-push-front-end
-    push-front-requires
+    push-word-requires
+    enum-told-3
+    mul-push-both
+    mul-push-both-2
+    mul-push-both-3
+    push-both-requires
     returns
     same-length
-    returns-2)
+    returns-2
+    same-length-2
+    returns-3)

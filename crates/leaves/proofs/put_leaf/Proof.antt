@@ -6,6 +6,7 @@ use Prim.Native.Nat.{ℕ}
 use native.Mathlib.Omega.{arith}
 use Rattle.semantics.specs.AnswerSets.{byMasks}
 use Rattle.tables.specs.Algebras.{leaf}
+use Rattle.values.specs.Values.{noValue}
 use Rattle.entries.specs.Carries.{Entry, Keeps}
 use Rattle.making.specs.Making.{Making, entryOf}
 use Rattle.leaves.specs.Leaves.{tableAlgebra, Wide}
@@ -37,7 +38,7 @@ first a cands rest ws₀ h =
 
 -- then the absent one, unless it is assumed true
 second : (b : tie.After-has-atom2) (cands rest : List Entry) (ws₀ : List ℕ) → Entries (start (b .before .before .before .before .before .before .before .before .before .before .before .before .before .before .before .before)) cands rest ws₀
-    → Making (start (b .before .before .before .before .before .before .before .before .before .before .before .before .before .before .before .before) .args .carry) (start (b .before .before .before .before .before .before .before .before .before .before .before .before .before .before .before .before) .args .w) (start (b .before .before .before .before .before .before .before .before .before .before .before .before .before .before .before .before) .args .p) (start (b .before .before .before .before .before .before .before .before .before .before .before .before .before .before .before .before) .args .to) cands (cond (b .has-atom2 .result) [] (entryOf (b .before .before .before .write-absent .last .0) 0 ∷ []) ++ rest) (b .before .before .before .before .before .before .before .before .before .before .before .put-unless .result) ws₀ (b .before .before .before .before .before .before .before .before .before .before .before .put-unless .last .0) (b .before .before .before .before .before .before .before .before .before .before .before .put-unless .last .1 .1 .0) (b .before .before .before .before .before .before .before .before .before .before .before .put-unless .last .1 .1 .1 .0)
+    → Making (start (b .before .before .before .before .before .before .before .before .before .before .before .before .before .before .before .before) .args .carry) (start (b .before .before .before .before .before .before .before .before .before .before .before .before .before .before .before .before) .args .w) (start (b .before .before .before .before .before .before .before .before .before .before .before .before .before .before .before .before) .args .p) (start (b .before .before .before .before .before .before .before .before .before .before .before .before .before .before .before .before) .args .to) cands (cond (b .has-atom2 .result) [] (entryOf (b .before .before .before .write-absent .last .0) noValue ∷ []) ++ rest) (b .before .before .before .before .before .before .before .before .before .before .before .put-unless .result) ws₀ (b .before .before .before .before .before .before .before .before .before .before .before .put-unless .last .0) (b .before .before .before .before .before .before .before .before .before .before .before .put-unless .last .1 .1 .0) (b .before .before .before .before .before .before .before .before .before .before .before .put-unless .last .1 .1 .1 .0)
 second b cands rest ws₀ h =
     let u = b .before .before .before .before .before .before .before .before .before .before .before in
     let s = start (u .before .before .before .before .before) in

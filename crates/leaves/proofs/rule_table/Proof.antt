@@ -3,6 +3,7 @@ use mathlib.Core.Path.{_∙_, subst}
 use mathlib.Core.List.{List, [], _∷_}
 use Prim.Native.Nat.{_*_}
 use native.Mathlib.Omega.{arith}
+use Rattle.values.specs.Values.{noValue}
 use Rattle.entries.specs.Carries.{Entry}
 use Rattle.making.specs.Making.{Making, Stepped, entryOf}
 use Rattle.making.proofs.Stepping.{stepped}
@@ -21,7 +22,7 @@ abbrev cands : tie.Start → List Entry
 cands s = tableAlgebra (s .args .tables) (s .args .carry) .unmet (s .args .g) ∷ []
 
 -- the row holds the candidate
-first : (k : tie.After-write-unmet) → Making (start k .args .carry) (start k .args .w) (start k .args .p) (start k .args .to) (cands (start k)) (entryOf (k .write-unmet .last .0) 0 ∷ []) 0 (start k .args .ws .now) (start k .args .ws .now) (start k .args .index .now) (start k .args .vals .now)
+first : (k : tie.After-write-unmet) → Making (start k .args .carry) (start k .args .w) (start k .args .p) (start k .args .to) (cands (start k)) (entryOf (k .write-unmet .last .0) noValue ∷ []) 0 (start k .args .ws .now) (start k .args .ws .now) (start k .args .index .now) (start k .args .vals .now)
 first k =
     let s = start k in
     subst (λ (x : Entry). Making (s .args .carry) (s .args .w) (s .args .p) (s .args .to) (cands s) (x ∷ []) 0 (s .args .ws .now) (s .args .ws .now) (s .args .index .now) (s .args .vals .now))

@@ -3,6 +3,8 @@ use mathlib.Core.Path.{_≡_, refl, sym, _∙_, subst}
 use mathlib.Core.List.{List, _∷_, _++_, map}
 use Prim.Native.Nat.{ℕ, _+_, _-_, _*_, _≤_}
 use lib.ListN.{length, drop, getD}
+use Rattle.values.specs.declared.Value.{Value}
+use Rattle.values.specs.Values.{noValue}
 use Rattle.candidates.specs.Candidates.{Readable}
 use Rattle.rows.specs.Parts.{part}
 use Rattle.batches.specs.Batches.{commandsOf}
@@ -59,7 +61,7 @@ module _ (c : tie.In-loop Inv-loop μ-loop) where
       (readable-row (s .args .carry) (s .args .w) (s .args .p) (s .args .a) (s .args .n) (s .args .old .now) (s .args .ws .now) (below s) (s .pre .1 .1 .0 .0) (s .pre .1 .1 .0 .1) j (c .loop-test .taken))
 
   -- the next candidate, for a value v
-  next : (v : ℕ) → v ≡ getD (valuesIn (s .args .carry) (s .args .n) (s .args .old .now)) j 0
+  next : (v : Value) → v ≡ getD (valuesIn (s .args .carry) (s .args .n) (s .args .old .now)) j noValue
       → (cands rest : List Entry) (v₀ : List ℕ) → Making (s .args .carry) (s .args .w) (s .args .p) (s .args .to) cands (map (batched (commandsOf (s .args .ops .now))) (those s) ++ rest) 0 v₀ (s .args .ws .now) (s .args .index .now) (s .args .vals .now)
       → Making (s .args .carry) (s .args .w) (s .args .p) (s .args .to) cands ((batchedAt (s .args .w) (s .args .a + j * s .args .w) v (commandsOf (s .args .ops .now)) (c .before .loop .ws) ∷ map (batched (commandsOf (s .args .ops .now))) (drop (j + 1) (those s))) ++ rest) (c .before .loop .r) v₀ (c .before .loop .ws) (c .before .loop .index) (c .before .loop .vals)
   next v ev cands rest v₀ h =

@@ -1,27 +1,20 @@
--- `operations::values_from`: by what is carried.
+-- `operations::values_from`: as many words for each table below.
+use mathlib.Core.Path.{ap}
+use Prim.Native.Nat.{ℕ, _*_}
 use native.Mathlib.Nat.{mul-le-mul}
-use Rattle.operations.proofs.Loads.{from-first}
-use borrow.Author.Needs.{needs}
 use native.Mathlib.Omega.{arith}
-use borrow.Author.Needs.{needs}
+use Rattle.operations.proofs.Loads.{few-words}
 use Rattle.operations.proofs.values_from.Statement.{statement}
 use Rattle.operations.proofs.values_from.Tie as tie
 
-enum-told : tie.Need-enum-told
-enum-told c = search needs
-
-enum-told-2 : tie.Need-enum-told-2
-enum-told-2 c = search needs
+words-of-requires : tie.Need-words-of-requires
+words-of-requires c κs = omega (arith, few-words (c .args .carry) (c .args .p) (c .pre .1))
 
 mul-result : tie.Need-mul-result
-mul-result c =
-    let s = c .before .before in omega (arith, s .pre .0, s .pre .1, mul-le-mul (s .pre .0) (s .pre .1))
+mul-result c = let s = c .before in omega (arith, ap (λ (k : ℕ). s .args .i * k) (c .words-of .ensures), mul-le-mul (s .pre .0) (few-words (s .args .carry) (s .args .p) (s .pre .1)))
 
 returns : tie.Need-returns
-returns c = search needs
-
-returns-2 : tie.Need-returns-2
-returns-2 c = let s = c .before .before in from-first (s .args .carry) (s .args .p) (s .args .i) (c .enum-told2 .given .1)
+returns c = ap (λ (k : ℕ). c .before .args .i * k) (c .words-of .ensures)
 
 pub values-from-spec : {M : Type 1} → statement M
-values-from-spec = tie.close (tie.spec enum-told enum-told-2 mul-result returns returns-2)
+values-from-spec = tie.close (tie.spec words-of-requires mul-result returns)

@@ -73,7 +73,7 @@ walk-requires : tie.Need-walk-requires
 walk-requires c κs =
     let n = c .before .before .before .before .before .before .before .before in
     let s = start n in
-    ((s .pre .0 .0, s .pre .0 .1, s .pre .0 .2, s .pre .0 .3, s .pre .0 .4, s .pre .0 .5, omega (arith, s .pre .1 .0 .2)), ((s .pre .1 .0 .0, tt), (s .pre .1 .1 .0, (back n, none n))))
+    ((s .pre .0 .0, s .pre .0 .1, s .pre .0 .2, s .pre .0 .3, s .pre .0 .4, s .pre .0 .5, omega (arith, s .pre .1 .0 .2)), ((s .pre .1 .0 .0, omega arith), (s .pre .1 .1 .0, (back n, none n))))
 
 enum-known-r : tie.Need-enum-known-r
 enum-known-r c = search needs

@@ -24,7 +24,7 @@ slice-aggregate-tabulate-2 c = search needs
 tabulate-requires : tie.Need-tabulate-requires
 tabulate-requires c κs =
     let s = c .before .before .before .before .before .before .before .before .before .before .before .before .before .before .before in
-    ((s .pre .0 .0, s .pre .0 .1, s .pre .0 .2, s .pre .0 .3, length-take-le (s .args .w) (s .args .row .now) (s .pre .0 .4), s .pre .0 .5), ((refl, s .pre .1 .0 .0, s .pre .1 .0 .1), s .pre .1 .1))
+    ((s .pre .0 .0, s .pre .0 .1, s .pre .0 .2, s .pre .0 .3, length-take-le (s .args .w) (s .args .row .now) (s .pre .0 .4), s .pre .0 .5), (((refl, refl), s .pre .1 .0 .0, s .pre .1 .0 .1), s .pre .1 .1))
 
 same-length : tie.Need-same-length
 same-length c = search needs

@@ -37,7 +37,7 @@ least-accepting-requires c κs =
     let a = asked s (s .pre .0) (s .pre .1) in
     let k = eight (s .args .t1) _ (s .good .0) in
     let l = c .before .before .if1 .left in
-    (first-within a (s .args .t1) (s .args .ws .now) (s .pre .2 .1) (s .pre .3 .1) refl k l, first-rows a (s .args .t1) (s .args .ws .now) (s .pre .2 .1) (s .pre .3 .1) refl k l, tt)
+    (first-within a (s .args .t1) (s .args .ws .now) (s .pre .2 .1) (s .pre .3 .1) refl k l, first-rows a (s .args .t1) (s .args .ws .now) (s .pre .2 .1) (s .pre .3 .1) refl k l, omega arith)
 
 enum-told : tie.Need-enum-told
 enum-told c = search needs

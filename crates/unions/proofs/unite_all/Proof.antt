@@ -9,6 +9,8 @@ use Rattle.candidates.specs.Candidates.{Readable}
 use Rattle.rows.specs.Parts.{part}
 use Rattle.rows.specs.Rows.{Rows, rowsIn}
 use Rattle.rows.proofs.Tables.{row-within}
+use Rattle.values.specs.declared.Value.{Value}
+use Rattle.values.specs.Values.{noValue}
 use Rattle.entries.specs.Carries.{Entry, entryAlgebra, valuesIn}
 use Rattle.entries.specs.Entries.{withValues}
 use Rattle.making.specs.Making.{Making, entryAt, entriesAt}
@@ -67,7 +69,7 @@ module _ (c : tie.In-loop Inv-loop μ-loop) where
   same-those = let s = start c in ap (λ (area : List ℕ). withValues (rowsIn (s .args .w) (s .args .nb) area) (valuesIn (s .args .carry) (s .args .nb) (s .args .right .now))) same-area
 
   -- the next candidates, for a value v
-  module _ (v : ℕ) (ev : v ≡ getD (valuesIn (start c .args .carry) (start c .args .na) (start c .args .left .now)) (c .before .loop .i) 0) where
+  module _ (v : Value) (ev : v ≡ getD (valuesIn (start c .args .carry) (start c .args .na) (start c .args .left .now)) (c .before .loop .i) noValue) where
     abbrev row : List Entry
     row = let s = start c in map (united s (entryAt (s .args .w) (s .args .a + c .before .loop .i * s .args .w) v (c .before .loop .ws))) (those s (c .before .loop .ws))
 

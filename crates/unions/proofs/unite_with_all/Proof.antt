@@ -7,6 +7,8 @@ use Rattle.labels.specs.Labels.{labelCount}
 use Rattle.candidates.specs.Candidates.{Readable}
 use Rattle.rows.specs.Parts.{part}
 use Rattle.rows.proofs.Tables.{row-within}
+use Rattle.values.specs.declared.Value.{Value}
+use Rattle.values.specs.Values.{noValue}
 use Rattle.entries.specs.Carries.{Keeps, Entry, entryAlgebra, valuesIn, carriedBy}
 use Rattle.making.specs.Making.{Making, entryAt, entriesAt}
 use Rattle.unions.specs.Unions.{unitedAt}
@@ -53,7 +55,7 @@ module _ (c : tie.In-loop Inv-loop μ-loop) where
       same-below (N .3) (c .before .loop .inv .5 (N .0) (N .1) (N .2) (N .3)) a k l (omega (arith, N .3 .as-long, s .pre .1 .0 .2))
 
   -- the next candidate, for a value v
-  next : (v : ℕ) → v ≡ carriedBy (start c .args .carry) .together (start c .args .va) (getD (valuesIn (start c .args .carry) (start c .args .n) (start c .args .others .now)) (c .before .loop .j) 0)
+  next : (v : Value) → v ≡ carriedBy (start c .args .carry) .together (start c .args .va) (getD (valuesIn (start c .args .carry) (start c .args .n) (start c .args .others .now)) (c .before .loop .j) noValue)
       → (cands rest : List Entry) (v₀ : List ℕ) → Making (start c .args .carry) (start c .args .w) (start c .args .p) (start c .args .to) cands
       (map (unite (start c)) (those (start c)) ++ rest)
       (start c .args .m) v₀ (start c .args .ws .now) (start c .args .index .now) (start c .args .vals .now)
@@ -67,7 +69,7 @@ module _ (c : tie.In-loop Inv-loop μ-loop) where
       (c .before .loop .inv .5 cands rest v₀ h)
 
 -- the value of the next candidate
-value : (t : tie.After-together Inv-loop μ-loop) → t .together .result ≡ carriedBy (start (t .before .before) .args .carry) .together (start (t .before .before) .args .va) (getD (valuesIn (start (t .before .before) .args .carry) (start (t .before .before) .args .n) (start (t .before .before) .args .others .now)) (t .before .before .before .loop .j) 0)
+value : (t : tie.After-together Inv-loop μ-loop) → t .together .result ≡ carriedBy (start (t .before .before) .args .carry) .together (start (t .before .before) .args .va) (getD (valuesIn (start (t .before .before) .args .carry) (start (t .before .before) .args .n) (start (t .before .before) .args .others .now)) (t .before .before .before .loop .j) noValue)
 value t = t .together .ensures ∙ ap (carriedBy (start (t .before .before) .args .carry) .together (start (t .before .before) .args .va)) (t .before .value-at .ensures)
 
 loop-holds : tie.Need-loop-holds Inv-loop μ-loop
@@ -105,7 +107,9 @@ unite-entry-requires c κs =
     )
 
 add-if1 : tie.Need-add-if1 Inv-loop μ-loop
-add-if1 c = search needs
+add-if1 c =
+    let u = c .before .before .before .before .before .before .before .before in
+    omega (arith, start (u .before .before .before .before .before .before .before) .pre .0 .2)
 
 same-length : tie.Need-same-length Inv-loop μ-loop
 same-length c =
