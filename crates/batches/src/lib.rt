@@ -122,30 +122,15 @@ fn step_all(run: &mut [u32], q: u32, ops: &[u32]) -> u32
     own
 }
 
-// The first n numbers in order, equal ones once. The answer is how many there are; what stands behind them is of no use.
-fn gather(run: &mut [u32], n: usize) -> usize
-    requires { ⌜ n ≤ length (now run) ⌝ }
-    ensures { λ r. ⌜ (r ≤ n) × (take r (now (run .exit)) ≡ setOf (take n (now (run .entry)))) ⌝ }
-{
-    let mut m = 0;
-    let mut i = 0;
-    while i < n {
-        let x = run[i];
-        m = runs::insert(run, m, x);
-        i += 1;
-    }
-    m
-}
-
 // The subsets that the commands make of src, where q is the interpretation's own triple. There are no more than before, so each finds room.
 fn batch_subsets(run: &mut [u32], src: &[u32], q: u32, ops: &[u32]) -> Left
     requires { ⌜ length (now src) ≤ length (now run) ⌝ }
     ensures { λ r. ⌜ (r .count ≤ length (now (src .entry))) × (r .own ∷ take (r .count) (now (run .exit)) ≡ batchPair labelCount (commandsOf (now (ops .entry))) (q ∷ now (src .entry))) ⌝ }
 {
     let n = src.len();
-    rows::copy_words(run, src);
+    words::copy_words(run, src);
     let own = step_all(&mut run[..n], q, ops);
-    let count = gather(run, n);
+    let count = runs::settle(run, n);
     Left { own, count }
 }
 

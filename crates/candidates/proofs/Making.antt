@@ -1,12 +1,12 @@
 -- A row whose first two words and subsets are written. Assumes nothing.
-use mathlib.Core.Path.{_≡_, refl, sym, ap}
-use mathlib.Core.List.{List, [], _∷_, _++_, append-assoc}
+use mathlib.Core.Path.{_≡_, refl, ap, _∙_}
+use mathlib.Core.List.{List, [], _∷_, _++_}
 use Prim.Native.Nat.{ℕ, _+_, _-_, _≤_, _<_}
 use native.Mathlib.Omega.{arith}
 use lib.ListN.{getD, length, take, drop, set, length-take, length-drop}
-use lib.Seq.{take-at}
+use lib.Seq.{take-append-le}
 use borrow.Rule.Slice.PartMut.{putMid, midOf}
-use Rattle.runs.specs.Runs.{Grown}
+use Rattle.runs.specs.Runs.{Filled}
 use Rattle.candidates.specs.Candidates.{pairOf, Made}
 
 -- the slice of a row's subsets
@@ -20,27 +20,23 @@ written row ys q m = set (set (putMid 2 (length row - 2) row ys) 0 q) 1 m
 pub room : (row : List ℕ) → length (behind row) ≡ length row - 2
 room row = simp (length-take, length-drop) (omega arith)
 
-front : (xs run ys rest : List ℕ) (m : ℕ) → Grown xs m run ys → m ≤ length run → take m (ys ++ rest) ≡ xs
-front xs run ys rest m g l =
-    let f = g .fits l in
-    rw (f .1, append-assoc xs (drop m run) rest) (take-at xs (drop m run ++ rest) m (sym (f .0)))
-
-pub made : (row xs ys : List ℕ) (q m : ℕ) → 2 ≤ length row → Grown xs m (behind row) ys → m ≤ length row - 2
+pub made : (row xs ys : List ℕ) (q m : ℕ) → 2 ≤ length row → length ys ≡ length (behind row) → Filled xs m ys → m ≤ length row - 2
     → (getD (written row ys q m) 1 0 ≡ m) × (pairOf (written row ys q m) ≡ q ∷ xs)
 unfolding pairOf
-made [] xs ys q m h g l = absurd (omega arith)
-made (x ∷ []) xs ys q m h g l = absurd (omega arith)
-made (x ∷ y ∷ row) xs ys q m h g l =
-    (refl, ap (λ (t : List ℕ). q ∷ t) (front xs (behind (x ∷ y ∷ row)) ys (drop (length (x ∷ y ∷ row) - 2) row) m g (omega (arith, room (x ∷ y ∷ row)))))
+made [] xs ys q m h e g l = absurd (omega arith)
+made (x ∷ []) xs ys q m h e g l = absurd (omega arith)
+made (x ∷ y ∷ row) xs ys q m h e g l =
+    let k : m ≤ length ys = omega (arith, e, room (x ∷ y ∷ row)) in
+    (refl, ap (λ (t : List ℕ). q ∷ t) (take-append-le m ys _ k ∙ g .fits k .1))
 
 -- the subsets fit
-pub holds : (row xs ys : List ℕ) (q m : ℕ) → 2 ≤ length row → Grown xs m (behind row) ys → m ≤ length row - 2 → Made (length row) m (q ∷ xs) (written row ys q m)
-holds row xs ys q m h g l = record { fits = λ k. made row xs ys q m h g l; full = λ k. absurd (omega arith) }
+pub holds : (row xs ys : List ℕ) (q m : ℕ) → 2 ≤ length row → length ys ≡ length (behind row) → Filled xs m ys → m ≤ length row - 2 → Made (length row) m (q ∷ xs) (written row ys q m)
+holds row xs ys q m h e g l = record { fits = λ k. made row xs ys q m h e g l; full = λ k. absurd (omega arith) }
 
 -- they do not
-pub exceeds : (row xs ys row' : List ℕ) (q m : ℕ) → 2 ≤ length row → Grown xs m (behind row) ys → length row - 2 < m → Made (length row) m (q ∷ xs) row'
-exceeds row xs ys row' q m h g l =
-    record { fits = λ k. absurd (omega arith); full = λ k. omega (arith, g .full (omega (arith, room row)), room row) }
+pub exceeds : (row xs ys row' : List ℕ) (q m : ℕ) → 2 ≤ length row → length ys ≡ length (behind row) → Filled xs m ys → length row - 2 < m → Made (length row) m (q ∷ xs) row'
+exceeds row xs ys row' q m h e g l =
+    record { fits = λ k. absurd (omega arith); full = λ k. omega (arith, e, g .full (omega (arith, e, room row)), room row) }
 
 -- the subsets of a row within a row as long
 pub no-more : (src row : List ℕ) (n : ℕ) → length src ≤ length row → length (take n (drop 2 src)) ≤ length (behind row)

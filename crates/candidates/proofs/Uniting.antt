@@ -1,18 +1,20 @@
 -- The subsets of two united interpretations, put in batch by batch, are those of the definition: a set goes by its members. Assumes nothing.
 use mathlib.Core.Path.{_≡_, refl, sym, _∙_}
-use mathlib.Core.Logic.{inl, ⊎-elim}
+use mathlib.Core.Logic.{⊎-elim}
 use mathlib.Core.List.{List, [], _∷_, _++_, map, List·Memᴰ, List·Memᴰ·append-cases, Memᴰ·append-left, Memᴰ·append-right, Memᴰ·cast, Memᴰ·map, Memᴰ·of-map}
 use Prim.Native.Nat.{ℕ, _≤_, _<_}
+use native.Mathlib.Decide.{ℕ-discrete}
 use native.Mathlib.Omega.{arith}
 use lib.Bits.{bitOr, or-comm}
-use lib.ListN.{length, take, length-map}
+use lib.ListN.{length, take, drop, length-map}
+use lib.Seq.{take-at}
 use Rattle.lists.specs.Lists.{products}
 use Rattle.lists.specs.Sorted.{compareNumbers, second, Rising, insert, insertAll, canon, setOf}
 use Rattle.lists.proofs.Canon.{length-insert, length-insertAll, rising-canon, canon-ext}
 use Rattle.lists.proofs.Comparisons.{numbers-lawful}
 use Rattle.tables.specs.Definitions.{Pair, subsets, unitePairs}
-use Rattle.runs.specs.Runs.{Grown}
-use Rattle.runs.proofs.Growing.{joined, Going, empty, step, last, no-products}
+use Rattle.runs.specs.Runs.{Grown, Filled}
+use Rattle.runs.proofs.Growing.{joined, Going, empty}
 
 -- the batches in the order in which they are put in
 abbrev pub batches : ℕ → List ℕ → ℕ → List ℕ → List ℕ
@@ -67,10 +69,21 @@ none (x ∷ xs) acc h = absurd (omega (arith, length-insertAll compareNumbers se
     some [] = omega arith
     some (y ∷ ys) = omega (arith, length-insert compareNumbers second x (y ∷ ys))
 
--- so the left side has no subset, and there are no products
-pub no-subsets : (goal a b : List ℕ) (q m r : ℕ) (run run' run₀ : List ℕ) → Going goal (map (bitOr q) a ++ products bitOr a b) m run run₀
-    → Grown (joined (map (bitOr q) a) (take m run)) r run run' → r ≤ length run → r ≡ 0 → Grown goal 0 run₀ run'
-no-subsets goal a b q m r run run' run₀ g w l e =
-    let next = step goal (map (bitOr q) a) (products bitOr a b) m r run run' run₀ g w l in
-    let few : length a ≡ 0 = sym (length-map a (bitOr q)) ∙ none (map (bitOr q) a) (take m run) (sym (w .fits l .0) ∙ e) in
-    rw (← e) (last goal (products bitOr a b) r r run' run' run₀ next (no-products bitOr a b r run' (inl few) (next .room) (next .rising)))
+-- so where b has subsets, the run is not empty
+pub some-left : (p : ℕ) (b : List ℕ) (r : ℕ) (run run' : List ℕ) → Grown (joined (map (bitOr p) b) []) r run run' → r ≤ length run → 0 < length b → 0 < r
+some-left p b r run run' w l h = go (ℕ-discrete r 0)
+  where
+    go : Dec (r ≡ 0) → 0 < r
+    go (yes e) = absurd (omega (arith, length-map b (bitOr p), none (map (bitOr p) b) [] (sym (w .fits l .0) ∙ e)))
+    go (no n) = omega arith
+
+-- all is put in
+pub finishes : (goal rest : List ℕ) (m r : ℕ) (run run' run₀ : List ℕ) → Going goal rest m run run₀ → Filled (joined rest (take m run)) r run' → Filled goal r run'
+finishes goal rest m r run run' run₀ g f = rw (g .left) at f
+
+-- the same where what stands behind is as it was
+pub behind-is : (goal : List ℕ) (r : ℕ) (run run' : List ℕ) → length run' ≡ length run → Grown goal r run run' → Filled goal r run'
+behind-is goal r run run' e g = record {
+  fits = λ l. let f = g .fits (omega (arith, e)) in (f .0, rw (f .1) (take-at goal (drop r run) r (sym (f .0))));
+  full = λ l. omega (arith, e, g .full (omega (arith, e)));
+}

@@ -8,7 +8,7 @@ ghost use Rattle.labels.specs.Sets.{has, without, replace};
 ghost use Rattle.expression.specs.Commands.{Suits};
 ghost use Rattle.tables.specs.Triples.{relabelTriple, settles};
 ghost use Rattle.tables.specs.Definitions.{subsets, unitePairs};
-ghost use Rattle.runs.specs.Runs.{Grown};
+ghost use Rattle.runs.specs.Runs.{Filled};
 ghost use Rattle.candidates.specs.Candidates.{pairOf, Readable, Made, mapTriple};
 use expression::Command;
 use expression::Kind;
@@ -86,21 +86,17 @@ pub fn map_triple(c: Command, q: u32, r: u32) -> u32
 
 // The subsets of two united interpretations: one side whole with a subset of the other, then a subset of each. The answer is as runs::insert's.
 fn unite_subsets(run: &mut [u32], qa: u32, a: &[u32], qb: u32, b: &[u32]) -> usize
-    ensures { λ r. ⌜ Grown (subsets (unitePairs (qa ∷ now (a .entry)) (qb ∷ now (b .entry)))) r (now (run .entry)) (now (run .exit)) ⌝ }
+    ensures { λ r. ⌜ Filled (subsets (unitePairs (qa ∷ now (a .entry)) (qb ∷ now (b .entry)))) r (now (run .exit)) ⌝ }
 {
     let left = runs::insert_unions(run, 0, b, qa);
     if run.len() < left {
         return left;
     }
-    let both = runs::insert_unions(run, left, a, qb);
-    if run.len() < both {
-        return both;
+    // most unions are with an atom, whose pairs have one subset at most
+    if b.len() < 2 {
+        return products::insert_few(run, left, a, qb, b);
     }
-    // neither side has a subset
-    if both == 0 {
-        return 0;
-    }
-    runs::insert_products(run, both, a, b)
+    products::insert_products(run, left, a, qb, b)
 }
 
 // The row of two united pairs. The answer is how many subsets it has, or more than the row has room for. What stands behind the subsets is left.

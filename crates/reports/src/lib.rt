@@ -54,7 +54,7 @@ pub fn write_report(
     while j < n {
         let at = a + j * w;
         let k = entry_words(kind, ws[at + 1]);
-        rows::copy_words(&mut out[to..to + k], &ws[at..at + k]);
+        words::copy_words(&mut out[to..to + k], &ws[at..at + k]);
         to += k;
         j += 1;
     }

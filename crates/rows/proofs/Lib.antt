@@ -1,4 +1,3 @@
-pub mod Mix
 pub mod Words
 pub mod Parts
 pub mod Single

@@ -1,4 +1,4 @@
 pub mod Shifting
 pub mod Opening
 pub mod Growing
-pub mod Filtering
+pub mod Gathering

@@ -24,8 +24,8 @@ slice-aggregate-step-all c =
 step-all-requires : tie.Need-step-all-requires
 step-all-requires c κs = search needs
 
-gather-requires : tie.Need-gather-requires
-gather-requires c κs = search needs
+settle-requires : tie.Need-settle-requires
+settle-requires c κs = search needs
 
 same-length : tie.Need-same-length
 same-length c = search needs
@@ -36,7 +36,7 @@ returns c =
     let h = g .before .before .before .before in
     let k = h .before .before .before .before in
     let s = k .before .before .before .before .before in
-    (g .gather .ensures .0, made-pair (commandsOf (s .args .ops .now)) (s .args .q) _ (g .gather .result) (length (s .args .src .now)) (s .args .src .now) (s .args .run .now) (k .copy-words .last .0) (h .step-all .last .0) _ (g .gather .last .0) refl (k .copy-words .ensures) (h .step-all .ensures) (h .step-all .kept .0) refl (g .gather .ensures .1))
+    (g .settle .ensures .0, made-pair (commandsOf (s .args .ops .now)) (s .args .q) _ (g .settle .result) (length (s .args .src .now)) (s .args .src .now) (s .args .run .now) (k .copy-words .last .0) (h .step-all .last .0) _ (g .settle .last .0) refl (k .copy-words .ensures) (h .step-all .ensures) (h .step-all .kept .0) refl (g .settle .ensures .1))
 
 pub batch-subsets-spec : {M : Type 1} → statement M
 batch-subsets-spec =
@@ -46,6 +46,6 @@ batch-subsets-spec =
     slice-relend-prefix-step-all
     slice-aggregate-step-all
     step-all-requires
-    gather-requires
+    settle-requires
     same-length
     returns)

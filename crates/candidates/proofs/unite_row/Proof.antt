@@ -6,9 +6,9 @@ use lib.ListN.{length, getD, length-set}
 use borrow.Rule.Slice.PartMut.{putMid, same-len-mid}
 use borrow.Author.Needs.{needs}
 use Rattle.tables.specs.Definitions.{subsets, unitePairs}
-use Rattle.runs.specs.Runs.{Grown}
+use Rattle.runs.specs.Runs.{Filled}
 use Rattle.candidates.specs.Candidates.{pairOf, Readable}
-use Rattle.candidates.proofs.Making.{behind, holds, exceeds}
+use Rattle.candidates.proofs.Making.{holds, exceeds}
 use Rattle.candidates.proofs.unite_row.Statement.{statement}
 use Rattle.candidates.proofs.unite_row.Tie as tie
 
@@ -16,8 +16,8 @@ abbrev start : tie.After-unite-subsets → tie.Start
 start c = c .before .before .before .before .before .before .before .before .before .before .before
 
 -- what the slice of the subsets holds
-made-subsets : (c : tie.After-unite-subsets) → Grown (subsets (unitePairs (pairOf (start c .args .a .now)) (pairOf (start c .args .b .now))))
-    (c .unite-subsets .result) (behind (start c .args .row .now)) (c .unite-subsets .last .0)
+made-subsets : (c : tie.After-unite-subsets) → Filled (subsets (unitePairs (pairOf (start c .args .a .now)) (pairOf (start c .args .b .now))))
+    (c .unite-subsets .result) (c .unite-subsets .last .0)
 unfolding pairOf
 made-subsets c =
     let na : 2 + getD (start c .args .a .now) 1 0 - 2 ≡ getD (start c .args .a .now) 1 0 = omega arith in
@@ -29,27 +29,21 @@ long : (c : tie.After-unite-subsets) → length (putMid 2 (length (start c .args
 long c = same-len-mid 2 (length (start c .args .row .now) - 2) (start c .args .row .now) (c .unite-subsets .last .0) (c .unite-subsets .kept .0)
 
 shared-slice-read-qa : tie.Need-shared-slice-read-qa
-unfolding Readable
 shared-slice-read-qa c = search needs
 
 shared-slice-read-qb : tie.Need-shared-slice-read-qb
-unfolding Readable
 shared-slice-read-qb c = search needs
 
 shared-slice-read-na : tie.Need-shared-slice-read-na
-unfolding Readable
 shared-slice-read-na c = search needs
 
 cast-na : tie.Need-cast-na
-unfolding Readable
 cast-na c = search needs
 
 shared-slice-read-nb : tie.Need-shared-slice-read-nb
-unfolding Readable
 shared-slice-read-nb c = search needs
 
 cast-nb : tie.Need-cast-nb
-unfolding Readable
 cast-nb c = search needs
 
 sub-unite-subsets : tie.Need-sub-unite-subsets
@@ -62,7 +56,6 @@ part-unite-subsets-end : tie.Need-part-unite-subsets-end
 part-unite-subsets-end c = search needs
 
 add-unite-subsets : tie.Need-add-unite-subsets
-unfolding Readable
 add-unite-subsets c = search needs
 
 sub-unite-subsets-2 : tie.Need-sub-unite-subsets-2
@@ -72,11 +65,9 @@ part-unite-subsets-start-2 : tie.Need-part-unite-subsets-start-2
 part-unite-subsets-start-2 c = search needs
 
 part-unite-subsets-end-2 : tie.Need-part-unite-subsets-end-2
-unfolding Readable
 part-unite-subsets-end-2 c = search needs
 
 add-unite-subsets-2 : tie.Need-add-unite-subsets-2
-unfolding Readable
 add-unite-subsets-2 c = search needs
 
 sub-unite-subsets-3 : tie.Need-sub-unite-subsets-3
@@ -86,7 +77,6 @@ part-unite-subsets-start-3 : tie.Need-part-unite-subsets-start-3
 part-unite-subsets-start-3 c = search needs
 
 part-unite-subsets-end-3 : tie.Need-part-unite-subsets-end-3
-unfolding Readable
 part-unite-subsets-end-3 c = search needs
 
 unite-subsets-requires : tie.Need-unite-subsets-requires
@@ -102,7 +92,7 @@ returns : tie.Need-returns
 unfolding unitePairs pairOf
 returns c =
     let at-subsets = c .before .before .before in
-    exceeds (start at-subsets .args .row .now) _ _ _ _ _ (start at-subsets .pre .0 .0) (made-subsets at-subsets) (omega (arith, c .if1 .taken, long at-subsets))
+    exceeds (start at-subsets .args .row .now) _ _ _ _ _ (start at-subsets .pre .0 .0) (at-subsets .unite-subsets .kept .0) (made-subsets at-subsets) (omega (arith, c .if1 .taken, long at-subsets))
 
 slice-write-row : tie.Need-slice-write-row
 slice-write-row c = search needs
@@ -120,7 +110,7 @@ returns-2 : tie.Need-returns-2
 unfolding unitePairs pairOf
 returns-2 c =
     let at-subsets = c .before .before .before in
-    holds (start at-subsets .args .row .now) _ _ _ _ (start at-subsets .pre .0 .0) (made-subsets at-subsets) (omega (arith, c .if1 .left, long at-subsets, start at-subsets .pre .0 .0))
+    holds (start at-subsets .args .row .now) _ _ _ _ (start at-subsets .pre .0 .0) (at-subsets .unite-subsets .kept .0) (made-subsets at-subsets) (omega (arith, c .if1 .left, long at-subsets, start at-subsets .pre .0 .0))
 
 pub unite-row-spec : {M : Type 1} → statement M
 unite-row-spec =

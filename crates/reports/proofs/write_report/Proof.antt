@@ -15,7 +15,6 @@ use native.Mathlib.Omega.{arith}
 use Rattle.reports.proofs.write_report.Statement.{statement}
 use Rattle.reports.proofs.write_report.Tie as tie
 use Rattle.reports.proofs.entry_words.Reads as entry-words-reads
-use Rattle.rows.proofs.copy_words.Reads as copy-words-reads
 
 abbrev Inv-loop : tie.InvT-loop
 Inv-loop out₀ ws kind w p a n to₀ j₀ out to j =

@@ -4,7 +4,7 @@ use mathlib.Core.List.{List, [], _∷_, _++_}
 use Prim.Native.Nat.{ℕ, suc, _≤_, _<_, _-_, _+_}
 use native.Mathlib.Omega.{arith}
 use lib.ListN.{length, getD, take, drop, replicate, length-set, length-replicate, getD-replicate}
-use Rattle.rows.proofs.Mix.{mix, mix-more, mix-all}
+use Rattle.words.proofs.Mix.{mix, mix-more, mix-all}
 use Rattle.rows.proofs.clear.Statement.{statement}
 use Rattle.rows.proofs.clear.Tie as tie
 use Rattle.rows.proofs.clear.Reads as reads

@@ -5,7 +5,7 @@ use Prim.Native.Nat.{ℕ, _≤_, _-_}
 use lib.ListN.{length, getD, length-set, getD-replicate}
 use Rattle.rows.specs.Parts.{zeros}
 use Rattle.rows.proofs.Parts.{zeros-long}
-use Rattle.rows.proofs.Mix.{mix, mix-more, mix-get-high, mix-all}
+use Rattle.words.proofs.Mix.{mix, mix-more, mix-get-high, mix-all}
 use borrow.Author.Needs.{needs}
 use native.Mathlib.Omega.{arith}
 use Rattle.workspace.proofs.move_words.Statement.{statement}

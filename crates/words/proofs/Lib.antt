@@ -1,0 +1,2 @@
+pub mod Parting
+pub mod Mix
