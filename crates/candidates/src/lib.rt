@@ -1,10 +1,10 @@
 // What a command makes of a triple, and of two rows in a lent row of words.
 ghost use mathlib.Core.Path.{_≡_};
+ghost use mathlib.Core.Bool.{cond};
 ghost use mathlib.Core.List.{_∷_};
 ghost use Prim.Native.Nat.{_+_, _≤_, _<_};
 ghost use lib.ListN.{length};
 ghost use Rattle.labels.specs.Labels.{labelCount};
-ghost use Rattle.labels.specs.Sets.{has, without, replace};
 ghost use Rattle.expression.specs.Commands.{Suits};
 ghost use Rattle.tables.specs.Triples.{relabelTriple, settles};
 ghost use Rattle.tables.specs.Definitions.{subsets, unitePairs};
@@ -16,55 +16,31 @@ use expression::Kind;
 // labels::LABELS at the width of a word.
 const LABELS: u32 = labels::LABELS as u32;
 
-// Whether the mark m is in the set a.
-fn has_bit(m: u32, a: u32) -> bool
-    requires { ⌜ m < 32 ⌝ }
-    ensures { λ r. ⌜ r ≡ has m a ⌝ }
-{
-    (a >> m) % 2 == 1
-}
+// The marks of label 0 in a triple's three sets.
+const MARKS: u32 = 1 + (1 << LABELS) + (1 << (2 * LABELS));
 
-// a without the mark m. No branch: the triples of one row differ in it.
-fn without_bit(m: u32, a: u32) -> u32
-    requires { ⌜ m < 32 ⌝ }
-    ensures { λ r. ⌜ r ≡ without m a ⌝ }
-{
-    let digit = (a >> m) % 2;
-    a - (digit << m)
-}
-
-// a with the mark n in place of m, where it has m.
-fn replace_bit(m: u32, n: u32, a: u32) -> u32
-    requires { ⌜ (m < 32) × (n < 32) ⌝ }
-    ensures { λ r. ⌜ r ≡ replace m n a ⌝ }
-{
-    let digit = (a >> m) % 2;
-    (digit << n) | (a - (digit << m))
-}
-
-// What had label i has label j, in each of the triple's three sets.
+// What had label i has label j, in each of the triple's three sets at once.
 fn relabel_triple(i: u32, j: u32, r: u32) -> u32
     requires { ⌜ (i < labelCount) × (j < labelCount) ⌝ }
     ensures { λ s. ⌜ s ≡ relabelTriple labelCount i j r ⌝ }
 {
-    let u = replace_bit(2 * LABELS + i, 2 * LABELS + j, r);
-    let f = replace_bit(LABELS + i, LABELS + j, u);
-    replace_bit(i, j, f)
+    let moved = r & (MARKS << i);
+    ((moved >> i) << j) | (r ^ moved)
 }
 
-// Whether atoms of label i meet a rule that they are put into. Negative ones count by the interpretation's own triple q: the reduct is by it.
-fn settles(k: Kind, i: u32, q: u32, r: u32) -> bool
+// 1 if atoms of label i meet a rule that they are put into, else 0. Negative ones count by the interpretation's own triple q: the reduct is by it.
+fn settled(k: Kind, i: u32, q: u32, r: u32) -> u32
     requires { ⌜ i < labelCount ⌝ }
-    ensures { λ s. ⌜ s ≡ settles labelCount k i q r ⌝ }
+    ensures { λ s. ⌜ s ≡ cond (settles labelCount k i q r) 1 0 ⌝ }
 {
     match k {
-        Kind::Head => has_bit(i, r),
-        Kind::Positive => has_bit(LABELS + i, r),
-        Kind::Negative => has_bit(i, q),
+        Kind::Head => (r >> i) % 2,
+        Kind::Positive => (r >> (LABELS + i)) % 2,
+        Kind::Negative => (q >> i) % 2,
     }
 }
 
-// What the command makes of a triple r, where q is the interpretation's own.
+// What the command makes of a triple r, where q is the interpretation's own. No branch on r: the triples of one row differ in it.
 pub fn map_triple(c: Command, q: u32, r: u32) -> u32
     requires { ⌜ Suits labelCount c ⌝ }
     ensures { λ s. ⌜ s ≡ mapTriple labelCount c q r ⌝ }
@@ -72,11 +48,8 @@ pub fn map_triple(c: Command, q: u32, r: u32) -> u32
     match c {
         Command::Relabel(i, j) => relabel_triple(i, j, r),
         Command::Connect(k, i, j) => {
-            if settles(k, i, q, r) {
-                without_bit(2 * LABELS + j, r)
-            } else {
-                r
-            }
+            let met = settled(k, i, q, r) << (2 * LABELS + j);
+            r ^ (r & met)
         }
         Command::Atom(_) => r,
         Command::Rule(_) => r,
