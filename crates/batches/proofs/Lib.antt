@@ -1,2 +1,5 @@
 pub mod Steps
+pub mod Judging
+pub mod Words
+pub mod Fusing
 pub mod Gathering

@@ -4,14 +4,12 @@ use mathlib.Core.Bool.{Bool, true, false, cond}
 use mathlib.Core.List.{List, [], _∷_, map}
 use Prim.Native.Nat.{ℕ, zero, suc, _+_, _*_, _/_, _%_, _^_, _≤_, _<_}
 use native.Mathlib.Nat.{one-mul, mod-lt, not-suc-le-zero, le-of-suc-le-suc}
-use native.Mathlib.Numerals.{add-one}
 use native.Mathlib.Omega.{arith}
 use lib.Bits.{bitOr}
 use lib.Pow.{shl-exact}
 use lib.Dec.{eqb}
 use borrow.Author.Tests.{eq-eqb, ne-eqb}
-use lib.ListN.{length, drop, getD, drop-of-length-le}
-use lib.Seq.{drop-cons}
+use lib.ListN.{length, getD}
 use Rattle.labels.specs.Labels.{labelCount}
 use Rattle.expression.specs.declared.Kind.{Kind}
 use Rattle.expression.specs.declared.Kind.the-variants.{Head, Positive, Negative}
@@ -20,7 +18,7 @@ use Rattle.expression.specs.declared.Command.the-variants.{Atom, Rule, Union, R
 use Rattle.expression.specs.Commands.{Suits}
 use Rattle.tables.specs.Triples.{markU}
 use Rattle.candidates.specs.Candidates.{mapTriple}
-use Rattle.batches.specs.Batches.{Joins, formed, commandOf, commandsOf, stepTriple, step, steps}
+use Rattle.batches.specs.Batches.{Joins, formed, commandOf, stepTriple}
 
 -- the labels of a word are below K
 suits-formed : (K f i j : ℕ) → i < K → j < K → Suits K (formed f i j)
@@ -145,15 +143,3 @@ pub map-read : (f : ℕ → ℕ) (l : List ℕ) (i : ℕ) → i < length l → g
 map-read f [] i h = absurd (not-suc-le-zero h)
 map-read f (x ∷ l) zero h = refl
 map-read f (x ∷ l) (suc i) h = map-read f l i (le-of-suc-le-suc h)
-
--- the next command of those left
-pub next-step : (goal ops : List ℕ) (k : ℕ) → k < length ops → (own : ℕ) (run : List ℕ) → steps labelCount (commandsOf (drop k ops)) (own ∷ run) ≡ goal
-    → (c : Command) → c ≡ commandOf labelCount (getD ops k 0) → (own' : ℕ) (run' : List ℕ) → own' ≡ stepTriple labelCount c own own → run' ≡ map (stepTriple labelCount c own) run
-    → steps labelCount (commandsOf (drop (k + 1) ops)) (own' ∷ run') ≡ goal
-unfolding steps step
-next-step goal ops k l own run h c ec own' run' eo er = rw (eo, er, ec, add-one k) (rw (drop-cons ops k 0 l) at h)
-
--- none is left
-pub no-steps : (ops : List ℕ) (k : ℕ) → length ops ≤ k → (x goal : List ℕ) → steps labelCount (commandsOf (drop k ops)) x ≡ goal → x ≡ goal
-unfolding steps
-no-steps ops k l x goal h = rw (drop-of-length-le ops {i = k} l) at h

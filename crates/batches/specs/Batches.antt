@@ -1,16 +1,22 @@
--- Several commands on a pair at once: relabels, connects and unions with a rule, over K labels. Assumes nothing.
-use mathlib.Core.Bool.{cond}
+-- Several commands on a pair at once: relabels, connects and unions with a rule, over K labels; and a rule with its connects as one word. Assumes nothing.
+use mathlib.Core.Bool.{Bool, cond, not, _||_}
 use mathlib.Core.List.{List, [], _∷_, map}
-use Prim.Native.Nat.{ℕ, _/_, _%_}
-use lib.Dec.{eqb}
-use lib.Bits.{bitOr}
+use Prim.Native.Nat.{ℕ, _+_, _*_, _/_, _%_, _^_, _<_}
+use lib.Dec.{eqb, ltb}
+use lib.Bits.{bitAnd, bitOr}
 use Rattle.lists.specs.Sorted.{setOf}
 use Rattle.labels.specs.Labels.{labelCount}
+use Rattle.labels.specs.Sets.{without}
 use Rattle.expression.specs.declared.Kind.the-variants.{Head, Positive, Negative}
 use Rattle.expression.specs.declared.Command.{Command}
 use Rattle.expression.specs.declared.Command.the-variants.{Atom, Rule, Union, Relabel, Connect}
 use Rattle.tables.specs.Triples.{markU, relabelTriple, connectTriple}
 use Rattle.tables.specs.Definitions.{Pair, ownTriple, subsets}
+use Rattle.batches.specs.declared.Judge.{Judge}
+
+-- how many words a batch has at most
+abbrev pub batchLimit : ℕ
+batchLimit = 64
 
 -- the commands of a batch: a rule stands for the union with it
 abbrev pub Joins : Command → Type 0
@@ -34,6 +40,10 @@ commandOf K w = formed (w / K / K) (w / K % K) (w % K)
 
 abbrev pub commandsOf : List ℕ → List Command
 commandsOf ops = map (commandOf labelCount) ops
+
+-- a rule judged at once is met: q has one of the labels of its negative atoms in T, or r has one of its marks
+unfoldable pub isMet : Judge → ℕ → ℕ → Bool
+isMet j q r = not (eqb (bitAnd q (j .negative)) 0) || not (eqb (bitAnd r (j .marks)) 0)
 
 module _ (K : ℕ) where
   -- what a command makes of a triple r, where q is the interpretation's own
@@ -59,3 +69,41 @@ module _ (K : ℕ) where
   -- what commands make of a pair
   unfoldable pub batchPair : List Command → Pair → Pair
   batchPair cs x = cleaned (steps cs x)
+
+  -- ---- a rule with its connects, and the relabel behind them, at once
+
+  -- the rule's label is out of U or in it, and then relabelled
+  unfoldable pub judgeTriple : Judge → ℕ → ℕ → ℕ
+  judgeTriple j q r =
+      relabelTriple K (j .label) (j .after) (cond (isMet j q r) (without (2 * K + j .label) r) (bitOr r (markU K (j .label))))
+
+  -- its numbers are those of a word
+  abbrev pub Fits : Judge → Type 0
+  Fits j = (j .marks < 2 ^ (2 * K)) × (j .negative < 2 ^ K) × (j .label < K) × (j .after < K)
+
+  -- its word, from judgesFrom on: the marks, the labels of negative atoms, its label, the one after
+  abbrev pub judgesFrom : ℕ
+  judgesFrom = K * K * 2 ^ (3 * K)
+
+  unfoldable pub judgeOf : ℕ → Judge
+  judgeOf w = record {
+    marks = w % 2 ^ (2 * K);
+    negative = w / 2 ^ (2 * K) % 2 ^ K;
+    label = w / 2 ^ (3 * K) % K;
+    after = w / 2 ^ (3 * K) / K % K;
+  }
+
+  -- what a word makes of a triple: it is that of a rule judged at once, or stands for a command
+  unfoldable pub wordTriple : ℕ → ℕ → ℕ → ℕ
+  wordTriple w q r = cond (ltb w judgesFrom) (stepTriple (commandOf K w) q r) (judgeTriple (judgeOf w) q r)
+
+  unfoldable pub wordStep : ℕ → List ℕ → List ℕ
+  wordStep w x = wordTriple w (ownTriple x) (ownTriple x) ∷ map (wordTriple w (ownTriple x)) (subsets x)
+
+  unfoldable pub wordSteps : List ℕ → List ℕ → List ℕ
+  wordSteps [] x = x
+  wordSteps (w ∷ ws) x = wordSteps ws (wordStep w x)
+
+  -- what words make of a pair
+  unfoldable pub wordsPair : List ℕ → Pair → Pair
+  wordsPair ws x = cleaned (wordSteps ws x)

@@ -1,24 +1,25 @@
 -- The entries of a table mapped one after the other: the next candidate, and that there are no more candidates than rows. Assumes nothing.
-use mathlib.Core.Path.{_≡_, sym, ap, _∙_}
-use mathlib.Core.List.{List, _∷_, map}
+use mathlib.Core.Path.{_≡_, refl, sym, ap, ap₂, _∙_}
+use mathlib.Core.List.{List, [], _∷_, map}
 use Prim.Native.Nat.{ℕ, _+_, _*_, _≤_, _<_}
 use native.Mathlib.Decide.{decLe}
 use native.Mathlib.Omega.{arith}
 use lib.ListN.{length, take, drop, getD, List·getD-map}
 use Rattle.lists.proofs.Canon.{length-canon-map}
 use Rattle.labels.specs.Labels.{labelCount}
-use Rattle.expression.specs.declared.Command.{Command}
+use Rattle.tables.specs.Definitions.{Pair}
 use Rattle.values.specs.declared.Value.{Value}
 use Rattle.values.specs.Values.{noValue, inLow}
 use Rattle.rows.specs.Parts.{part}
 use Rattle.rows.specs.Rows.{Rows}
+use Rattle.batches.specs.Batches.{commandsOf, steps, cleaned, batchPair, wordSteps, wordsPair}
 use Rattle.entries.specs.declared.Carry.{Carry}
 use Rattle.entries.specs.declared.Carry.the-variants.{Nothing, First, Consequences}
 use Rattle.entries.specs.Carries.{Keeps, valuesIn, Beside, Entry, entryAlgebra}
 use Rattle.entries.proofs.Keeping.{no-value}
-use Rattle.making.specs.Making.{Making, tableOfAll, entriesAt}
+use Rattle.making.specs.Making.{Making, tableOfAll, entriesAt, entryAt}
 use Rattle.making.proofs.Held.{entries-long, entry-at, entries-from}
-use Rattle.maps.specs.Maps.{batched, batchedAt}
+use Rattle.maps.specs.Maps.{batched, worded}
 
 -- the value of a row is one that words keep
 pub keeps-value : (carry : Carry) (n j : ℕ) (old : List ℕ) → Keeps carry (getD (valuesIn carry n old) j noValue)
@@ -26,22 +27,34 @@ keeps-value Nothing n j old = sym (no-value n j)
 keeps-value First n j old = ap (λ (v : Value). v .high) (List·getD-map inLow (take n old) j 0)
 keeps-value Consequences n j old = tt
 
+-- an entry with its pair mapped
+abbrev pub by : (Pair → Pair) → Entry → Entry
+by f x = record { item = f (x .item); value = x .value }
+
+-- words that do what commands do
+pub worded-is : (code ops : List ℕ) → ((x : List ℕ) → wordSteps labelCount code x ≡ steps labelCount (commandsOf ops) x) → (t : List Entry)
+    → map (worded code) t ≡ map (batched (commandsOf ops)) t
+unfolding wordsPair batchPair
+worded-is code ops e [] = refl
+worded-is code ops e (x ∷ t) =
+    ap₂ {C = List Entry} (λ y l. y ∷ l) (ap (λ (y : List ℕ). record { item = cleaned labelCount y; value = x .value }) (e (x .item))) (worded-is code ops e t)
+
 -- the n entries of the area at word a
-module _ (carry : Carry) (w p a n : ℕ) (old wsₛ : List ℕ) (within : a + p * w ≤ length wsₛ) (t : Rows w p n (part a (p * w) wsₛ)) (beside : Beside carry n old) (cs : List Command) where
+module _ (carry : Carry) (w p a n : ℕ) (old wsₛ : List ℕ) (within : a + p * w ≤ length wsₛ) (t : Rows w p n (part a (p * w) wsₛ)) (beside : Beside carry n old) (f : Pair → Pair) where
   abbrev xs : List Entry
   xs = entriesAt carry w p a n old wsₛ
 
   pub next-is : (j : ℕ) → j < n → (v : Value) → v ≡ getD (valuesIn carry n old) j noValue → (ws : List ℕ) → part (a + j * w) w ws ≡ part (a + j * w) w wsₛ
-      → map (batched cs) (drop j xs) ≡ batchedAt w (a + j * w) v cs ws ∷ map (batched cs) (drop (j + 1) xs)
+      → map (by f) (drop j xs) ≡ by f (entryAt w (a + j * w) v ws) ∷ map (by f) (drop (j + 1) xs)
   next-is j l v ev ws e =
-      ap (map (batched cs)) (entries-from carry w p a n old wsₛ within t beside j l)
-      ∙ ap (λ (y : Entry). batched cs y ∷ map (batched cs) (drop (j + 1) xs)) (entry-at carry w p a n old wsₛ within t beside j l v ev ws e)
+      ap (map (by f)) (entries-from carry w p a n old wsₛ within t beside j l)
+      ∙ ap (λ (y : Entry). by f y ∷ map (by f) (drop (j + 1) xs)) (entry-at carry w p a n old wsₛ within t beside j l v ev ws e)
 
   -- their table has no more than p rows
-  pub few-mapped : length (tableOfAll carry (map (batched cs) xs)) ≤ p
+  pub few-mapped : length (tableOfAll carry (map (by f) xs)) ≤ p
   unfolding tableOfAll
   few-mapped =
-      omega (arith, length-canon-map (entryAlgebra labelCount carry .order) (entryAlgebra labelCount carry .merge) (batched cs) xs, entries-long carry w p a n old wsₛ within t beside, t .room)
+      omega (arith, length-canon-map (entryAlgebra labelCount carry .order) (entryAlgebra labelCount carry .merge) (by f) xs, entries-long carry w p a n old wsₛ within t beside, t .room)
 
 -- a table whose candidates come to no more than p rows is not over
 pub not-over : {carry : Carry} {w p to : ℕ} {cands rest : List Entry} {r : ℕ} {ws₀ ws index vals : List ℕ} → Making carry w p to cands rest r ws₀ ws index vals

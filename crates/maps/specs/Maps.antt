@@ -6,7 +6,7 @@ use Rattle.labels.specs.Labels.{labelCount}
 use Rattle.expression.specs.declared.Command.{Command}
 use Rattle.values.specs.declared.Value.{Value}
 use Rattle.values.specs.Values.{noValue}
-use Rattle.batches.specs.Batches.{batchPair}
+use Rattle.batches.specs.Batches.{batchPair, wordsPair}
 use Rattle.entries.specs.declared.Carry.{Carry}
 use Rattle.entries.specs.declared.Carry.the-variants.{Nothing, First, Consequences}
 use Rattle.entries.specs.Carries.{Entry}
@@ -16,9 +16,13 @@ use Rattle.making.specs.Making.{tableOfAll, entryAt}
 abbrev pub batched : List Command → Entry → Entry
 batched cs x = record { item = batchPair labelCount cs (x .item); value = x .value }
 
+-- the same by words of code
+abbrev pub worded : List ℕ → Entry → Entry
+worded code x = record { item = wordsPair labelCount code (x .item); value = x .value }
+
 -- the entry of the row at word ra, with a value, mapped
-abbrev pub batchedAt : ℕ → ℕ → Value → List Command → List ℕ → Entry
-batchedAt w ra v cs ws = batched cs (entryAt w ra v ws)
+abbrev pub wordedAt : ℕ → ℕ → Value → List ℕ → List ℕ → Entry
+wordedAt w ra v code ws = worded code (entryAt w ra v ws)
 
 -- the table of the entries mapped
 abbrev pub batchedTable : Carry → List Command → List Entry → List Entry

@@ -8,12 +8,12 @@ ghost use lib.ListN.{length};
 ghost use Rattle.candidates.specs.Candidates.{Readable};
 ghost use Rattle.rows.specs.Parts.{part, zeros};
 ghost use Rattle.rows.specs.Rows.{Rows};
-ghost use Rattle.batches.specs.Batches.{commandsOf};
+ghost use Rattle.batches.specs.Batches.{batchLimit, commandsOf};
 ghost use Rattle.entries.specs.Carries.{Keeps, Beside, Kept};
 ghost use Rattle.making.specs.Making.{Next, Puts, Finished, entriesAt};
-ghost use Rattle.maps.specs.Maps.{batched, batchedAt};
+ghost use Rattle.maps.specs.Maps.{batched, worded, wordedAt};
 
-// What the commands make of the pair at word ra, with the value v, put into the table that is being made at word `to`. It has no more subsets than
+// What words of code make of the pair at word ra, with the value v, put into the table that is being made at word `to`. It has no more subsets than
 // before, so it fits. The answer is the count then; p + 1 where there are more than p rows.
 pub fn map_entry(
     ws: &mut [u32],
@@ -27,15 +27,15 @@ pub fn map_entry(
     to: usize,
     m: usize,
     v: Value,
-    ops: &[u32],
+    code: &[u32],
 ) -> usize
     requires { ⌜ (2 ≤ w) × (w ≤ 4096) × (p ≤ 1024) × (length (now row) ≡ w) ⌝ }
     requires { ⌜ (ra + w ≤ length (now ws)) × (to + p * w ≤ length (now ws)) ⌝ }
     requires { ⌜ Readable (part ra w (now ws)) × Keeps carry v ⌝ }
-    requires { ⌜ Next carry w p to m (batchedAt w ra v (commandsOf (now ops)) (now ws) ∷ []) (now ws) (now index) (now vals) ⌝ }
-    ensures { λ r. ⌜ Puts carry w p to m (batchedAt w ra v (commandsOf (now (ops .entry))) (now (ws .entry)) ∷ []) r (now (ws .entry)) (now (index .entry)) (now (vals .entry)) (now (ws .exit)) (now (index .exit)) (now (vals .exit)) ⌝ }
+    requires { ⌜ Next carry w p to m (wordedAt w ra v (now code) (now ws) ∷ []) (now ws) (now index) (now vals) ⌝ }
+    ensures { λ r. ⌜ Puts carry w p to m (wordedAt w ra v (now (code .entry)) (now (ws .entry)) ∷ []) r (now (ws .entry)) (now (index .entry)) (now (vals .entry)) (now (ws .exit)) (now (index .exit)) (now (vals .exit)) ⌝ }
 {
-    batches::batch_row(row, &ws[ra..ra + w], ops);
+    batches::batch_row(row, &ws[ra..ra + w], code);
     making::put_entry(ws, row, index, vals, carry, w, p, to, m, v)
 }
 
@@ -52,27 +52,55 @@ pub fn map_all(
     a: usize,
     n: usize,
     to: usize,
-    ops: &[u32],
+    code: &[u32],
 ) -> usize
     requires { ⌜ (2 ≤ w) × (w ≤ 4096) × (p ≤ 1024) × (length (now row) ≡ w) ⌝ }
     requires { ⌜ (a + p * w ≤ to) × (to + p * w ≤ length (now ws)) ⌝ }
     requires { ⌜ Rows w p n (part a (p * w) (now ws)) × Beside carry n (now old) ⌝ }
-    requires { ⌜ Next carry w p to 0 (map (batched (commandsOf (now ops))) (entriesAt carry w p a n (now old) (now ws))) (now ws) (now index) (now vals) ⌝ }
-    ensures { λ r. ⌜ Puts carry w p to 0 (map (batched (commandsOf (now (ops .entry)))) (entriesAt carry w p a n (now (old .entry)) (now (ws .entry)))) r (now (ws .entry)) (now (index .entry)) (now (vals .entry)) (now (ws .exit)) (now (index .exit)) (now (vals .exit)) ⌝ }
+    requires { ⌜ Next carry w p to 0 (map (worded (now code)) (entriesAt carry w p a n (now old) (now ws))) (now ws) (now index) (now vals) ⌝ }
+    ensures { λ r. ⌜ Puts carry w p to 0 (map (worded (now (code .entry))) (entriesAt carry w p a n (now (old .entry)) (now (ws .entry)))) r (now (ws .entry)) (now (index .entry)) (now (vals .entry)) (now (ws .exit)) (now (index .exit)) (now (vals .exit)) ⌝ }
 {
     let mut r = 0;
     let mut j = 0;
     while j < n {
         let ra = a + j * w;
         let v = entries::value_at(old, carry, n, j);
-        r = map_entry(ws, row, index, vals, carry, w, p, ra, to, r, v, ops);
+        r = map_entry(ws, row, index, vals, carry, w, p, ra, to, r, v, code);
         j += 1;
     }
     r
 }
 
 // The table at word a, of n rows with the values `old`, becomes what the commands make of it; made in the words from `to` on. It has no more rows than
-// before. The answer is how many, and `vals` holds their values then.
+// before. The answer is how many, and `vals` holds their values then. code is lent for the words.
+fn map_fused(
+    ws: &mut [u32],
+    row: &mut [u32],
+    index: &mut [u32],
+    vals: &mut [u64],
+    old: &[u64],
+    carry: Carry,
+    w: usize,
+    p: usize,
+    a: usize,
+    n: usize,
+    to: usize,
+    ops: &[u32],
+    code: &mut [u32],
+) -> usize
+    requires { ⌜ (2 ≤ w) × (w ≤ 4096) × (p ≤ 1024) × (length (now row) ≡ w) × (length (now ops) ≤ length (now code)) ⌝ }
+    requires { ⌜ (a + p * w ≤ to) × (to + p * w ≤ length (now ws)) ⌝ }
+    requires { ⌜ Rows w p n (part a (p * w) (now ws)) × Beside carry n (now old) ⌝ }
+    requires { ⌜ (part to (p * w) (now ws) ≡ zeros (p * w)) × (p ≤ length (now index)) × Kept carry p 0 (now vals) ⌝ }
+    ensures { λ r. ⌜ (r ≤ p) × Finished carry w p a (map (batched (commandsOf (now (ops .entry)))) (entriesAt carry w p a n (now (old .entry)) (now (ws .entry)))) r (now (ws .entry)) (now (ws .entry)) (now (ws .exit)) (now (vals .exit)) ⌝ }
+{
+    let m = batches::fuse(code, ops);
+    let r = map_all(ws, row, index, vals, old, carry, w, p, a, n, to, &code[..m]);
+    making::settle(ws, row, index, w, p, r, n, a, to);
+    r
+}
+
+// The same with words of its own.
 pub fn map_table(
     ws: &mut [u32],
     row: &mut [u32],
@@ -87,13 +115,26 @@ pub fn map_table(
     to: usize,
     ops: &[u32],
 ) -> usize
-    requires { ⌜ (2 ≤ w) × (w ≤ 4096) × (p ≤ 1024) × (length (now row) ≡ w) ⌝ }
+    requires { ⌜ (2 ≤ w) × (w ≤ 4096) × (p ≤ 1024) × (length (now row) ≡ w) × (length (now ops) ≤ batchLimit) ⌝ }
     requires { ⌜ (a + p * w ≤ to) × (to + p * w ≤ length (now ws)) ⌝ }
     requires { ⌜ Rows w p n (part a (p * w) (now ws)) × Beside carry n (now old) ⌝ }
     requires { ⌜ (part to (p * w) (now ws) ≡ zeros (p * w)) × (p ≤ length (now index)) × Kept carry p 0 (now vals) ⌝ }
     ensures { λ r. ⌜ (r ≤ p) × Finished carry w p a (map (batched (commandsOf (now (ops .entry)))) (entriesAt carry w p a n (now (old .entry)) (now (ws .entry)))) r (now (ws .entry)) (now (ws .entry)) (now (ws .exit)) (now (vals .exit)) ⌝ }
 {
-    let r = map_all(ws, row, index, vals, old, carry, w, p, a, n, to, ops);
-    making::settle(ws, row, index, w, p, r, n, a, to);
-    r
+    let mut code = [0u32; batches::BATCH_LIMIT];
+    map_fused(
+        ws,
+        row,
+        index,
+        vals,
+        old,
+        carry,
+        w,
+        p,
+        a,
+        n,
+        to,
+        ops,
+        &mut code,
+    )
 }

@@ -12,7 +12,7 @@ ghost use Rattle.expression.specs.Limits.{atomLimit, depthLimit};
 ghost use Rattle.semantics.specs.Expressions.{act, uniteNewest, changeNewest};
 ghost use Rattle.semantics.specs.AnswerSets.{byMasks};
 ghost use Rattle.tables.specs.Algebras.{leaf, tables};
-ghost use Rattle.batches.specs.Batches.{Joins, commandsOf};
+ghost use Rattle.batches.specs.Batches.{batchLimit, Joins, commandsOf};
 ghost use Rattle.entries.specs.Carries.{Beside, Kept};
 ghost use Rattle.making.specs.Making.{tableOfAll};
 ghost use Rattle.leaves.specs.Leaves.{tableAlgebra, Wide};
@@ -91,7 +91,7 @@ pub fn map_newest(
     n: usize,
     ops: &[u32],
 ) -> usize
-    requires { ⌜ (2 ≤ w) × (w ≤ 4096) × (p ≤ 1024) × (d ≤ depthLimit + 1) × (length (now row) ≡ w) × (p ≤ length (now index)) ⌝ }
+    requires { ⌜ (2 ≤ w) × (w ≤ 4096) × (p ≤ 1024) × (d ≤ depthLimit + 1) × (length (now row) ≡ w) × (p ≤ length (now index)) × (length (now ops) ≤ batchLimit) ⌝ }
     requires { ⌜ Kept carry p 0 (now made) × Beside carry ((d - 1) * p) (now vals) ⌝ }
     requires { ⌜ (1 ≤ t) × ((m : ℕ) × Ready carry d w p t n m (now ws) (now vals)) ⌝ }
     ensures { λ r. ⌜ (r ≤ p) × ((m : ℕ) → Acts carry d w p t n m (changeNewest (batchedTable carry (commandsOf (now (ops .entry))))) r (now (ws .entry)) (now (vals .entry)) (now (ws .exit)) (now (vals .exit)) (now (made .exit))) ⌝ }

@@ -24,7 +24,7 @@ ghost use Rattle.expression.specs.Checks.{checkBytes};
 ghost use Rattle.semantics.specs.Expressions.{act, changeNewest};
 ghost use Rattle.semantics.specs.AnswerSets.{byMasks};
 ghost use Rattle.tables.specs.Algebras.{tables};
-ghost use Rattle.batches.specs.Batches.{commandsOf};
+ghost use Rattle.batches.specs.Batches.{batchLimit, commandsOf};
 ghost use Rattle.entries.specs.Carries.{Entry, Beside, Kept};
 ghost use Rattle.leaves.specs.Leaves.{tableAlgebra, Wide};
 ghost use Rattle.maps.specs.Maps.{batchedTable};
@@ -118,7 +118,7 @@ fn map_ahead(
     t: usize,
     ops: &[u32],
 )
-    requires { ⌜ (2 ≤ w) × (w ≤ 4096) × (p ≤ 1024) × (length (now row) ≡ w) × (p ≤ length (now index)) ⌝ }
+    requires { ⌜ (2 ≤ w) × (w ≤ 4096) × (p ≤ 1024) × (length (now row) ≡ w) × (p ≤ length (now index)) × (length (now ops) ≤ batchLimit) ⌝ }
     requires { ⌜ Kept carry p 0 (now made) × Beside carry (depthLimit * p) (now vals) × (1 ≤ t) ⌝ }
     requires { ⌜ ((ts : List (List Entry)) × (beyond : List ℕ) × Stands carry (depthLimit + 1) w p ts beyond (now ws) (now vals) (now counts) × (length ts ≡ t)) ⌝ }
     ensures { λ _. ⌜ ((ts : List (List Entry)) (beyond : List ℕ) → Stands carry (depthLimit + 1) w p ts beyond (now (ws .entry)) (now (vals .entry)) (now (counts .entry)) → length ts ≡ t → Stands carry (depthLimit + 1) w p (changeNewest (batchedTable carry (commandsOf (now (ops .entry)))) ts) beyond (now (ws .exit)) (now (vals .exit)) (now (counts .exit))) ⌝ }
@@ -146,7 +146,7 @@ fn run_ahead(
     w: usize,
     p: usize,
 ) -> Stretch
-    requires { ⌜ (2 ≤ w) × (w ≤ 4096) × (p ≤ 1024) × (length (now row) ≡ w) × (p ≤ length (now index)) ⌝ }
+    requires { ⌜ (2 ≤ w) × (w ≤ 4096) × (p ≤ 1024) × (length (now row) ≡ w) × (p ≤ length (now index)) × (length (now ops) ≤ batchLimit) ⌝ }
     requires { ⌜ Kept carry p 0 (now made) × Beside carry (depthLimit * p) (now vals) ⌝ }
     requires { ⌜ ((ts : List (List Entry)) × (beyond : List ℕ) × Stands carry (depthLimit + 1) w p ts beyond (now ws) (now vals) (now counts) × (length ts ≡ n .depth)) ⌝ }
     ensures { λ r. ⌜ ((ts : List (List Entry)) (beyond : List ℕ) → Stands carry (depthLimit + 1) w p ts beyond (now (ws .entry)) (now (vals .entry)) (now (counts .entry)) → length ts ≡ n .depth → Ahead carry (depthLimit + 1) w p stop at n (now (s .entry)) ts beyond r (now (ws .exit)) (now (vals .exit)) (now (counts .exit))) ⌝ }
@@ -198,7 +198,7 @@ fn walk_by(
     assumed_true: u64,
     assumed_false: u64,
 ) -> Reached
-    requires { ⌜ Wide kind w × (w ≤ 4096) × (1 ≤ p) × (p ≤ 1024) × (length (now row) ≡ w) × (p ≤ length (now index)) × (stop ≤ length (now s)) ⌝ }
+    requires { ⌜ Wide kind w × (w ≤ 4096) × (1 ≤ p) × (p ≤ 1024) × (length (now row) ≡ w) × (p ≤ length (now index)) × (stop ≤ length (now s)) × (length (now ops) ≤ batchLimit) ⌝ }
     requires { ⌜ Kept carry p 0 (now made) × Beside carry (depthLimit * p) (now vals) ⌝ }
     requires { ⌜ ((z : Counts) × (checkBytes labelCount (now s) ≡ Passed z)) × ((beyond : List ℕ) × Stands carry (depthLimit + 1) w p [] beyond (now ws) (now vals) (now counts)) ⌝ }
     ensures { λ r. ⌜ ((beyond : List ℕ) → Stands carry (depthLimit + 1) w p [] beyond (now (ws .entry)) (now (vals .entry)) (now (counts .entry)) → Reaches kind carry (byMasks «assumed_true» «assumed_false») (depthLimit + 1) w p stop (now (s .entry)) beyond (now (ws .exit)) (now (vals .exit)) (now (counts .exit)) r) ⌝ }
@@ -279,7 +279,7 @@ pub fn walk(
     requires { ⌜ ((z : Counts) × (checkBytes labelCount (now s) ≡ Passed z)) × ((beyond : List ℕ) × Stands carry (depthLimit + 1) w p [] beyond (now ws) (now vals) (now counts)) ⌝ }
     ensures { λ r. ⌜ ((beyond : List ℕ) → Stands carry (depthLimit + 1) w p [] beyond (now (ws .entry)) (now (vals .entry)) (now (counts .entry)) → Reaches kind carry (byMasks «assumed_true» «assumed_false») (depthLimit + 1) w p stop (now (s .entry)) beyond (now (ws .exit)) (now (vals .exit)) (now (counts .exit)) r) ⌝ }
 {
-    let mut ops = [0u32; 64];
+    let mut ops = [0u32; batches::BATCH_LIMIT];
     walk_by(
         s,
         stop,

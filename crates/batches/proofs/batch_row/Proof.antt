@@ -8,7 +8,7 @@ use borrow.Rule.Slice.PartMut.{putMid, same-len-mid}
 use Rattle.labels.specs.Labels.{labelCount}
 use Rattle.candidates.specs.Candidates.{pairOf}
 use Rattle.candidates.proofs.Making.{no-more}
-use Rattle.batches.specs.Batches.{commandsOf, batchPair}
+use Rattle.batches.specs.Batches.{wordsPair}
 use Rattle.batches.proofs.Gathering.{written-pair}
 use borrow.Author.Needs.{needs}
 use Rattle.batches.proofs.batch_row.Statement.{statement}
@@ -69,7 +69,7 @@ same-length : tie.Need-same-length
 same-length c = search needs
 
 -- the pair that the slice of the subsets and the own triple make
-made : (c : tie.After-batch-subsets) → c .batch-subsets .result .own ∷ take (c .batch-subsets .result .count) (c .batch-subsets .last .0) ≡ batchPair labelCount (commandsOf (start c .args .ops .now)) (pairOf (start c .args .src .now))
+made : (c : tie.After-batch-subsets) → c .batch-subsets .result .own ∷ take (c .batch-subsets .result .count) (c .batch-subsets .last .0) ≡ wordsPair labelCount (start c .args .code .now) (pairOf (start c .args .src .now))
 unfolding pairOf
 made c =
     let n : 2 + getD (start c .args .src .now) 1 0 - 2 ≡ getD (start c .args .src .now) 1 0 = omega arith in

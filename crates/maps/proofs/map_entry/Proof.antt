@@ -7,11 +7,11 @@ use Rattle.labels.specs.Labels.{labelCount}
 use Rattle.tables.specs.Definitions.{Pair}
 use Rattle.candidates.specs.Candidates.{pairOf, Readable}
 use Rattle.rows.specs.Parts.{part}
-use Rattle.batches.specs.Batches.{commandsOf, batchPair}
+use Rattle.batches.specs.Batches.{wordsPair}
 use Rattle.rows.proofs.Parts.{span, part-long}
 use Rattle.entries.specs.Carries.{Entry}
 use Rattle.making.specs.Making.{Making, entryOf}
-use Rattle.maps.specs.Maps.{batchedAt}
+use Rattle.maps.specs.Maps.{wordedAt}
 use borrow.Author.Needs.{needs}
 use Rattle.maps.proofs.map_entry.Statement.{statement}
 use Rattle.maps.proofs.map_entry.Tie as tie
@@ -29,11 +29,11 @@ module _ (u : tie.After-batch-row) where
   readable = omega (arith, u .batch-row .ensures .0, u .batch-row .ensures .1)
 
   -- the pair that it holds
-  holds : pairOf (u .batch-row .last .0) ≡ batchPair labelCount (commandsOf (s .args .ops .now)) (pairOf (part (s .args .ra) (s .args .w) (s .args .ws .now)))
+  holds : pairOf (u .batch-row .last .0) ≡ wordsPair labelCount (s .args .code .now) (pairOf (part (s .args .ra) (s .args .w) (s .args .ws .now)))
   holds = rw (span (s .args .ra) (s .args .w)) at (u .batch-row .ensures .2)
 
   -- it is the next candidate
-  next : (cands rest : List Entry) (ws₀ : List ℕ) → Making (s .args .carry) (s .args .w) (s .args .p) (s .args .to) cands (batchedAt (s .args .w) (s .args .ra) (s .args .v) (commandsOf (s .args .ops .now)) (s .args .ws .now) ∷ rest) (s .args .m) ws₀ (s .args .ws .now) (s .args .index .now) (s .args .vals .now)
+  next : (cands rest : List Entry) (ws₀ : List ℕ) → Making (s .args .carry) (s .args .w) (s .args .p) (s .args .to) cands (wordedAt (s .args .w) (s .args .ra) (s .args .v) (s .args .code .now) (s .args .ws .now) ∷ rest) (s .args .m) ws₀ (s .args .ws .now) (s .args .index .now) (s .args .vals .now)
       → Making (s .args .carry) (s .args .w) (s .args .p) (s .args .to) cands (entryOf (u .batch-row .last .0) (s .args .v) ∷ rest) (s .args .m) ws₀ (s .args .ws .now) (s .args .index .now) (s .args .vals .now)
   next cands rest ws₀ h =
       subst (λ (x : Pair). Making (s .args .carry) (s .args .w) (s .args .p) (s .args .to) cands (record { item = x; value = s .args .v } ∷ rest) (s .args .m) ws₀ (s .args .ws .now) (s .args .index .now) (s .args .vals .now)) (sym holds) h

@@ -1,6 +1,7 @@
 -- `operations::map_by`: a batch of one command.
 use mathlib.Core.Path.{ap}
 use mathlib.Core.List.{[], _∷_}
+use native.Mathlib.Omega.{arith}
 use Rattle.expression.specs.declared.Command.{Command}
 use Rattle.semantics.specs.Expressions.{changeNewest}
 use Rattle.maps.specs.Maps.{batchedTable}
@@ -16,7 +17,7 @@ slice-aggregate-map-newest : tie.Need-slice-aggregate-map-newest
 slice-aggregate-map-newest c = search needs
 
 map-newest-requires : tie.Need-map-newest-requires
-map-newest-requires c κs = let s = c .before .before .before .before .before .before .before .before .before .before .before .before in (s .pre .0, ((s .pre .1 .0 .0, s .pre .1 .0 .1), s .pre .1 .1))
+map-newest-requires c κs = let s = c .before .before .before .before .before .before .before .before .before .before .before .before in ((s .pre .0 .0, s .pre .0 .1, s .pre .0 .2, s .pre .0 .3, s .pre .0 .4, s .pre .0 .5, omega arith), ((s .pre .1 .0 .0, s .pre .1 .0 .1), s .pre .1 .1))
 
 same-length : tie.Need-same-length
 same-length c = search needs

@@ -78,7 +78,7 @@ map-table-requires c κs =
     let v = c .before .before .before .before .before .before in
     let s = start v in
     let S = newer-stands (s .pre .1 .1 .1 .1 .0) (held s) (s .pre .1 .1 .0) in (
-      (s .pre .0 .0, s .pre .0 .1, s .pre .0 .2, s .pre .0 .4),
+      (s .pre .0 .0, s .pre .0 .1, s .pre .0 .2, s .pre .0 .4, s .pre .0 .6),
       (
         (omega (arith, row-within (i s) (s .args .d - 1) (k s) (omega (arith, deep s))), omega (arith, last s)),
         ((stands-rows S (i s * k s) (s .args .n) refl (held s .newer), beside-rest (s .args .carry) (s .args .d) (s .args .p) (i s) (s .args .vals .now) (deep s) (s .pre .1 .0 .1) (from v) (v .values-from .ensures) (s .args .n) (stands-few S (i s * k s) (s .args .n) refl (held s .newer))), (scratch-zero (held s), s .pre .0 .5, s .pre .1 .0 .0)),

@@ -41,7 +41,7 @@ map-newest-requires : tie.Need-map-newest-requires
 map-newest-requires c κs =
     let v = c .before .before .before .before .before in
     let s = start v in
-    ((s .pre .0 .0, s .pre .0 .1, s .pre .0 .2, omega arith, s .pre .0 .3, s .pre .0 .4), ((s .pre .1 .0 .0, s .pre .1 .0 .1), (s .pre .1 .0 .2, (below v, (s .pre .1 .1 .0, s .pre .1 .1 .1, load v (s .pre .1 .1 .0) (s .pre .1 .1 .1) (standing s) (s .pre .1 .1 .3))))))
+    ((s .pre .0 .0, s .pre .0 .1, s .pre .0 .2, omega arith, s .pre .0 .3, s .pre .0 .4, s .pre .0 .5), ((s .pre .1 .0 .0, s .pre .1 .0 .1), (s .pre .1 .0 .2, (below v, (s .pre .1 .1 .0, s .pre .1 .1 .1, load v (s .pre .1 .1 .0) (s .pre .1 .1 .1) (standing s) (s .pre .1 .1 .3))))))
 
 tally-requires : tie.Need-tally-requires
 unfolding Applies

@@ -65,7 +65,7 @@ slice-aggregate-map-ahead : tie.Need-slice-aggregate-map-ahead
 slice-aggregate-map-ahead c = let u = c .before .before .before .before .before .before .before .before .before .before .before in sym (length-take-le _ (words u) (u .read-stretch .ensures .0))
 
 map-ahead-requires : tie.Need-map-ahead-requires
-map-ahead-requires c κs = let u = c .before .before .before .before .before .before .before .before .before .before .before in let s = start (first u) in (s .pre .0, ((s .pre .1 .0 .0, s .pre .1 .0 .1, there u), s .pre .1 .1))
+map-ahead-requires c κs = let u = c .before .before .before .before .before .before .before .before .before .before .before in let s = start (first u) in ((s .pre .0 .0, s .pre .0 .1, s .pre .0 .2, s .pre .0 .3, s .pre .0 .4, omega (arith, length-take-le _ (words u) (u .read-stretch .ensures .0), u .read-stretch .ensures .0, u .read-stretch .kept .1 .1 .1 .1 .0, s .pre .0 .5)), ((s .pre .1 .0 .0, s .pre .1 .0 .1, there u), s .pre .1 .1))
 
 same-length-2 : tie.Need-same-length-2
 same-length-2 c = search needs

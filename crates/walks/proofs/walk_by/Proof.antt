@@ -135,7 +135,7 @@ run-ahead-requires c κs =
     let s = first l in
     let q = l .loop .inv in
     let g = going l (s .pre .1 .1 .1 .0) (s .pre .1 .1 .1 .1) in
-    ((wide-two (s .args .kind) (s .args .w) (s .pre .0 .0), s .pre .0 .1, s .pre .0 .3, q .0, omega (arith, s .pre .0 .5, q .2)), ((q .7, beside-as (s .args .carry) (depthLimit * s .args .p) (s .args .vals .now) (l .loop .vals) (q .4) (s .pre .1 .0 .1)), (g .stack, s .pre .1 .1 .1 .0, g .stands, g .leading .deep)))
+    ((wide-two (s .args .kind) (s .args .w) (s .pre .0 .0), s .pre .0 .1, s .pre .0 .3, q .0, omega (arith, s .pre .0 .5, q .2), omega (arith, s .pre .0 .7, q .6)), ((q .7, beside-as (s .args .carry) (depthLimit * s .args .p) (s .args .vals .now) (l .loop .vals) (q .4) (s .pre .1 .0 .1)), (g .stack, s .pre .1 .1 .1 .0, g .stands, g .leading .deep)))
 
 same-length : tie.Need-same-length Inv-loop μ-loop
 same-length c = ws-long (ran (c .before))

@@ -1,0 +1,86 @@
+-- Words one after the other on a row, and words put behind others for commands. Assumes nothing.
+use mathlib.Core.Path.{_≡_, refl, sym, ap, ap₂, _∙_}
+use mathlib.Core.List.{List, [], _∷_, _++_, map}
+use Prim.Native.Nat.{ℕ, suc, _+_, _-_, _≤_, _<_}
+use native.Mathlib.Numerals.{add-one}
+use native.Mathlib.Omega.{arith}
+use lib.ListN.{length, take, drop, set, getD, drop-of-length-le}
+use lib.Seq.{drop-cons, take-suc, take-suc-set}
+use Rattle.labels.specs.Labels.{labelCount}
+use Rattle.expression.specs.declared.Command.{Command}
+use Rattle.tables.specs.Definitions.{ownTriple, subsets}
+use Rattle.batches.specs.Batches.{commandOf, commandsOf, stepTriple, step, steps, wordTriple, wordStep, wordSteps}
+
+-- ---- words on a row
+
+-- the next word of those left
+pub next-word : (goal code : List ℕ) (k : ℕ) → k < length code → (own : ℕ) (run : List ℕ) → wordSteps labelCount (drop k code) (own ∷ run) ≡ goal
+    → (own' : ℕ) (run' : List ℕ) → own' ≡ wordTriple labelCount (getD code k 0) own own → run' ≡ map (wordTriple labelCount (getD code k 0) own) run
+    → wordSteps labelCount (drop (k + 1) code) (own' ∷ run') ≡ goal
+unfolding wordSteps wordStep
+next-word goal code k l own run h own' run' eo er = rw (eo, er, add-one k) (rw (drop-cons code k 0 l) at h)
+
+-- none is left
+pub no-words : (code : List ℕ) (k : ℕ) → length code ≤ k → (x goal : List ℕ) → wordSteps labelCount (drop k code) x ≡ goal → x ≡ goal
+unfolding wordSteps
+no-words code k l x goal h = rw (drop-of-length-le code {i = k} l) at h
+
+-- ---- a word for a command
+
+more-words : (ws : List ℕ) (w : ℕ) (x : List ℕ) → wordSteps labelCount (ws ++ w ∷ []) x ≡ wordStep labelCount w (wordSteps labelCount ws x)
+unfolding wordSteps
+more-words [] w x = refl
+more-words (v ∷ ws) w x = more-words ws w (wordStep labelCount v x)
+
+map-two : (f g h : ℕ → ℕ) → ((r : ℕ) → h r ≡ f (g r)) → (l : List ℕ) → map h l ≡ map f (map g l)
+map-two f g h e [] = refl
+map-two f g h e (x ∷ l) = ap₂ {C = List ℕ} (λ y m. y ∷ m) (e x) (map-two f g h e l)
+
+module _ (s : ℕ) (c : Command) where
+  as-command : ((q r : ℕ) → wordTriple labelCount s q r ≡ stepTriple labelCount c q r) → (x : List ℕ) → wordStep labelCount s x ≡ step labelCount c x
+  unfolding wordStep step
+  as-command e x =
+      ap₂ {C = List ℕ} (λ y m. y ∷ m) (e (ownTriple x) (ownTriple x)) (map-two (stepTriple labelCount c (ownTriple x)) (λ r. r) (wordTriple labelCount s (ownTriple x)) (e (ownTriple x)) (subsets x) ∙ ap (map (stepTriple labelCount c (ownTriple x))) (map-self (subsets x)))
+    where
+      map-self : (l : List ℕ) → map (λ (r : ℕ). r) l ≡ l
+      map-self [] = refl
+      map-self (y ∷ l) = ap (λ (m : List ℕ). y ∷ m) (map-self l)
+
+  as-both : (w : ℕ) → ((q r : ℕ) → wordTriple labelCount s q r ≡ stepTriple labelCount c (wordTriple labelCount w q q) (wordTriple labelCount w q r)) → (x : List ℕ)
+      → wordStep labelCount s x ≡ step labelCount c (wordStep labelCount w x)
+  unfolding wordStep step
+  as-both w e x =
+      ap₂ {C = List ℕ} (λ y m. y ∷ m) (e (ownTriple x) (ownTriple x)) (map-two (stepTriple labelCount c (wordTriple labelCount w (ownTriple x) (ownTriple x))) (wordTriple labelCount w (ownTriple x)) (wordTriple labelCount s (ownTriple x)) (e (ownTriple x)) (subsets x))
+
+module _ (code : List ℕ) (m s : ℕ) (c : Command) (x : List ℕ) where
+  -- in place of the last word
+  pub put-last : 0 < m → m ≤ length code → ((q r : ℕ) → wordTriple labelCount s q r ≡ stepTriple labelCount c (wordTriple labelCount (getD code (m - 1) 0) q q) (wordTriple labelCount (getD code (m - 1) 0) q r))
+      → wordSteps labelCount (take m (set code (m - 1) s)) x ≡ step labelCount c (wordSteps labelCount (take m code) x)
+  put-last l k e =
+      let f : m ≡ suc (m - 1) = omega arith in
+      let i : m - 1 < length code = omega arith in
+      ap (λ (n : ℕ). wordSteps labelCount (take n (set code (m - 1) s)) x) f
+      ∙ ap (λ (t : List ℕ). wordSteps labelCount t x) (take-suc-set code (m - 1) s i)
+      ∙ more-words (take (m - 1) code) s x
+      ∙ as-both s c (getD code (m - 1) 0) e (wordSteps labelCount (take (m - 1) code) x)
+      ∙ ap (step labelCount c) (sym (ap (λ (n : ℕ). wordSteps labelCount (take n code) x) f ∙ ap (λ (t : List ℕ). wordSteps labelCount t x) (take-suc code (m - 1) 0 i) ∙ more-words (take (m - 1) code) (getD code (m - 1) 0) x))
+
+  -- behind the last one
+  pub put-behind : m < length code → ((q r : ℕ) → wordTriple labelCount s q r ≡ stepTriple labelCount c q r)
+      → wordSteps labelCount (take (m + 1) (set code m s)) x ≡ step labelCount c (wordSteps labelCount (take m code) x)
+  put-behind l e =
+      ap (λ (n : ℕ). wordSteps labelCount (take n (set code m s)) x) (add-one m)
+      ∙ ap (λ (t : List ℕ). wordSteps labelCount t x) (take-suc-set code m s l)
+      ∙ more-words (take m code) s x
+      ∙ as-command s c e (wordSteps labelCount (take m code) x)
+
+-- ---- the commands left
+
+pub next-command : (goal ops : List ℕ) (k : ℕ) → k < length ops → (y z : List ℕ) → steps labelCount (commandsOf (drop k ops)) y ≡ goal → z ≡ step labelCount (commandOf labelCount (getD ops k 0)) y
+    → steps labelCount (commandsOf (drop (k + 1) ops)) z ≡ goal
+unfolding steps
+next-command goal ops k l y z h e = rw (e, add-one k) (rw (drop-cons ops k 0 l) at h)
+
+pub no-commands : (ops : List ℕ) (k : ℕ) → length ops ≤ k → (y goal : List ℕ) → steps labelCount (commandsOf (drop k ops)) y ≡ goal → y ≡ goal
+unfolding steps
+no-commands ops k l y goal h = rw (drop-of-length-le ops {i = k} l) at h

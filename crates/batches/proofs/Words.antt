@@ -1,0 +1,178 @@
+-- The words of rules judged at once, and what words make of triples one after the other. Assumes nothing.
+use mathlib.Core.Path.{_≡_, refl, sym, ap, ap₂, _∙_}
+use mathlib.Core.Bool.{Bool, true, false, cond, not, _||_, or-true, or-false}
+use mathlib.Core.List.{List, [], _∷_, _++_, map}
+use Prim.Native.Nat.{ℕ, _+_, _-_, _*_, _/_, _%_, _^_, _≤_, _<_}
+use native.Mathlib.Nat.{one-mul}
+use native.Mathlib.Omega.{arith}
+use lib.Bits.{bitAnd, bitOr, or-lt, and-zero-r}
+use lib.Pow.{shl-exact, pow-lt}
+use lib.Dec.{eqb, ltb}
+use borrow.Author.Tests.{lt-ltb, le-ltb}
+use lib.ListN.{length, take, drop, set, getD}
+use Rattle.labels.specs.Labels.{labelCount}
+use Rattle.labels.specs.Sets.{has, without}
+use Rattle.labels.proofs.Sets.{has-le}
+use Rattle.expression.specs.declared.Kind.{Kind}
+use Rattle.expression.specs.declared.Kind.the-variants.{Head, Positive, Negative}
+use Rattle.expression.specs.declared.Command.{Command}
+use Rattle.expression.specs.declared.Command.the-variants.{Rule, Relabel, Connect}
+use Rattle.expression.specs.Commands.{Suits}
+use Rattle.tables.specs.Triples.{markU, settles, relabelTriple, connectTriple}
+use Rattle.candidates.specs.Candidates.{mapTriple}
+use Rattle.batches.specs.declared.Judge.{Judge}
+use Rattle.batches.specs.Batches.{commandOf, stepTriple, step, isMet, Fits, judgesFrom, judgeOf, judgeTriple, wordTriple, wordStep, wordSteps}
+use Rattle.batches.proofs.Steps.{is-negative, rule-word}
+use Rattle.batches.proofs.Judging.{with-has, meets-more, connect-more, relabel-more, no-atoms}
+
+-- one mark in a word
+pub mark-is : (n : ℕ) → n < 32 → (1 * 2 ^ n) % 2 ^ 32 ≡ 2 ^ n
+mark-is n l = shl-exact 1 n 32 (omega arith) (omega arith) ∙ one-mul (2 ^ n)
+
+pub with-mark : (k a n : ℕ) → a < 2 ^ k → n < k → k ≤ 32 → bitOr a ((1 * 2 ^ n) % 2 ^ 32) < 2 ^ k
+with-mark k a n h l m = rw (mark-is n (omega arith)) (or-lt k a (2 ^ n) h (pow-lt l))
+
+pub mark-within : (g r : ℕ) → 2 ^ (2 * labelCount + g) ≤ bitOr r (2 ^ (2 * labelCount + g))
+mark-within g r = has-le (2 * labelCount + g) (bitOr r (2 ^ (2 * labelCount + g))) (with-has (2 * labelCount + g) r)
+
+-- a rule's word, read again
+pub word-fits : (m n g h w : ℕ) → Fits labelCount (record { marks = m; negative = n; label = g; after = h }) → w ≡ ((labelCount + h) * labelCount + g) * 2 ^ (3 * labelCount) + n * 2 ^ (2 * labelCount) + m
+    → judgeOf labelCount w ≡ record { marks = m; negative = n; label = g; after = h }
+unfolding judgeOf
+word-fits m n g h w f e =
+    let x : ℕ = (labelCount + h) * labelCount + g in
+    let y : ℕ = x * 2 ^ labelCount + n in
+    let t : w / 2 ^ (2 * labelCount) ≡ y = omega (arith, f .0, e) in
+    let u : y / 2 ^ labelCount ≡ x = omega (arith, f .1) in
+    let v : w / 2 ^ (3 * labelCount) ≡ x = omega (arith, t, u) in
+    let a : w % 2 ^ (2 * labelCount) ≡ m = omega (arith, f .0, e) in
+    let b : y % 2 ^ labelCount ≡ n = omega (arith, f .1) in
+    let c : x % labelCount ≡ g = omega (arith, f .2) in
+    let z : x / labelCount ≡ labelCount + h = omega (arith, f .2) in
+    let d : (labelCount + h) % labelCount ≡ h = omega (arith, f .3) in rw (a, v, t, b, c, z, d)
+
+-- what a word makes of a triple, by its size
+module _ (w q r : ℕ) where
+  pub by-command : w < judgesFrom labelCount → wordTriple labelCount w q r ≡ stepTriple labelCount (commandOf labelCount w) q r
+  unfolding wordTriple
+  by-command l = rw (lt-ltb w (judgesFrom labelCount) l)
+
+  pub by-judge : judgesFrom labelCount ≤ w → wordTriple labelCount w q r ≡ judgeTriple labelCount (judgeOf labelCount w) q r
+  unfolding wordTriple
+  by-judge l = rw (le-ltb w (judgesFrom labelCount) l)
+
+module _ (w q r z : ℕ) where
+  pub command-made : (c : Command) → c ≡ commandOf labelCount w → z ≡ stepTriple labelCount c q r → w < judgesFrom labelCount → z ≡ wordTriple labelCount w q r
+  command-made c e f l = f ∙ ap (λ (d : Command). stepTriple labelCount d q r) e ∙ sym (by-command w q r l)
+
+  pub judge-made : (j : Judge) → j ≡ judgeOf labelCount w → z ≡ judgeTriple labelCount j q r → judgesFrom labelCount ≤ w → z ≡ wordTriple labelCount w q r
+  judge-made j e f l = f ∙ ap (λ (d : Judge). judgeTriple labelCount d q r) e ∙ sym (by-judge w q r l)
+
+pub map-same : (f g : ℕ → ℕ) → ((r : ℕ) → f r ≡ g r) → (l : List ℕ) → map f l ≡ map g l
+map-same f g e [] = refl
+map-same f g e (x ∷ l) = ap₂ {C = List ℕ} (λ y m. y ∷ m) (e x) (map-same f g e l)
+
+module _ (w q : ℕ) (l : List ℕ) where
+  pub commands-made : (c : Command) → c ≡ commandOf labelCount w → w < judgesFrom labelCount → map (stepTriple labelCount c q) l ≡ map (wordTriple labelCount w q) l
+  commands-made c e k = map-same (stepTriple labelCount c q) (wordTriple labelCount w q) (λ r. command-made w q r (stepTriple labelCount c q r) c e refl k) l
+
+  pub judges-made : (j : Judge) → j ≡ judgeOf labelCount w → judgesFrom labelCount ≤ w → map (judgeTriple labelCount j q) l ≡ map (wordTriple labelCount w q) l
+  judges-made j e k = map-same (judgeTriple labelCount j q) (wordTriple labelCount w q) (λ r. judge-made w q r (judgeTriple labelCount j q r) j e refl k) l
+
+-- ---- a rule, by its tests
+
+module _ (K : ℕ) (j : Judge) (q r : ℕ) (b : Bool) (e : b ≡ isMet j q r) (y z : ℕ) (f : z ≡ mapTriple K (Relabel (j .label) (j .after)) q y) where
+  pub met-rule : b ≡ true → y ≡ without (2 * K + j .label) r → z ≡ judgeTriple K j q r
+  unfolding mapTriple judgeTriple
+  met-rule t g = f ∙ ap (relabelTriple K (j .label) (j .after)) (g ∙ ap (λ (d : Bool). cond d (without (2 * K + j .label) r) (bitOr r (markU K (j .label)))) (sym t ∙ e))
+
+  pub unmet-rule : b ≡ false → y ≡ bitOr r (markU K (j .label)) → z ≡ judgeTriple K j q r
+  unfolding mapTriple judgeTriple
+  unmet-rule t g = f ∙ ap (relabelTriple K (j .label) (j .after)) (g ∙ ap (λ (d : Bool). cond d (without (2 * K + j .label) r) (bitOr r (markU K (j .label)))) (sym t ∙ e))
+
+pub suits-relabel : (K i j : ℕ) → i < K → j < K → Suits K (Relabel i j)
+unfolding Suits
+suits-relabel K i j a b = (a, b)
+
+-- ---- atoms put into a rule
+
+or-back : (a b c : Bool) → (a || (b || c)) ≡ ((a || b) || c)
+or-back true b c = refl
+or-back false b c = refl
+
+or-last : (a b c : Bool) → ((a || c) || b) ≡ ((a || b) || c)
+or-last true b c = refl
+or-last false true c = or-true c
+or-last false false c = or-false c
+
+module _ (j : Judge) (k : Kind) (i q r : ℕ) where
+  pub head-in : i < labelCount → k ≡ Head
+      → isMet (record { marks = bitOr (j .marks) ((1 * 2 ^ i) % 2 ^ 32); negative = j .negative; label = j .label; after = j .after }) q r ≡ (isMet j q r || settles labelCount k i q r)
+  unfolding isMet settles
+  head-in l e = rw (e, mark-is i (omega arith), meets-more r (j .marks) i) (or-back (not (eqb (bitAnd q (j .negative)) 0)) (not (eqb (bitAnd r (j .marks)) 0)) (has i r))
+
+  pub positive-in : i < labelCount → k ≡ Positive
+      → isMet (record { marks = bitOr (j .marks) ((1 * 2 ^ (labelCount + i)) % 2 ^ 32); negative = j .negative; label = j .label; after = j .after }) q r ≡ (isMet j q r || settles labelCount k i q r)
+  unfolding isMet settles
+  positive-in l e = rw (e, mark-is (labelCount + i) (omega arith), meets-more r (j .marks) (labelCount + i)) (or-back (not (eqb (bitAnd q (j .negative)) 0)) (not (eqb (bitAnd r (j .marks)) 0)) (has (labelCount + i) r))
+
+  pub negative-in : i < labelCount → k ≡ Negative
+      → isMet (record { marks = j .marks; negative = bitOr (j .negative) ((1 * 2 ^ i) % 2 ^ 32); label = j .label; after = j .after }) q r ≡ (isMet j q r || settles labelCount k i q r)
+  unfolding isMet settles
+  negative-in l e = rw (e, mark-is i (omega arith), meets-more q (j .negative) i) (or-last (not (eqb (bitAnd q (j .negative)) 0)) (not (eqb (bitAnd r (j .marks)) 0)) (has i q))
+
+-- ---- a rule's word, and the word after a command more
+
+module _ (w : ℕ) (j : Judge) (lw : judgesFrom labelCount ≤ w) (ej : j ≡ judgeOf labelCount w) (s : ℕ) (x : Judge) (ls : judgesFrom labelCount ≤ s) (ex : judgeOf labelCount s ≡ x) where
+  before : (q r : ℕ) → judgeTriple labelCount j q r ≡ wordTriple labelCount w q r
+  before q r = ap (λ (y : Judge). judgeTriple labelCount y q r) ej ∙ sym (by-judge w q r lw)
+
+  then : (q r : ℕ) → wordTriple labelCount s q r ≡ judgeTriple labelCount x q r
+  then q r = by-judge s q r ls ∙ ap (λ (y : Judge). judgeTriple labelCount y q r) ex
+
+  module _ (g : ℕ) (el : j .label ≡ g) (ea : j .after ≡ g) (c : Command) (q r : ℕ) where
+    pub connect-fused : (k : Kind) (i : ℕ) → c ≡ Connect k i g → i < labelCount → x .label ≡ g → x .after ≡ g → isMet x q r ≡ (isMet j q r || settles labelCount k i q r)
+        → wordTriple labelCount s q r ≡ stepTriple labelCount c (wordTriple labelCount w q q) (wordTriple labelCount w q r)
+    unfolding stepTriple
+    connect-fused k i ec l xl xa m =
+        then q r
+        ∙ connect-more labelCount j x g el ea q r k i l xl xa m
+        ∙ ap₂ (connectTriple labelCount k i g) (before q q) (before q r)
+        ∙ ap (λ (d : Command). stepTriple labelCount d (wordTriple labelCount w q q) (wordTriple labelCount w q r)) (sym ec)
+
+    pub relabel-fused : (h : ℕ) → c ≡ Relabel g h → x .label ≡ g → x .after ≡ h → isMet x q r ≡ isMet j q r
+        → wordTriple labelCount s q r ≡ stepTriple labelCount c (wordTriple labelCount w q q) (wordTriple labelCount w q r)
+    unfolding stepTriple
+    relabel-fused h ec xl xa m =
+        then q r
+        ∙ relabel-more labelCount j x g el ea q r h xl xa m
+        ∙ ap (relabelTriple labelCount g h) (before q r)
+        ∙ ap (λ (d : Command). stepTriple labelCount d (wordTriple labelCount w q q) (wordTriple labelCount w q r)) (sym ec)
+
+-- ---- a word for one command
+
+no-marks : (g q r : ℕ) → isMet (record { marks = 0; negative = 0; label = g; after = g }) q r ≡ false
+unfolding isMet
+no-marks g q r = rw (and-zero-r q, and-zero-r r)
+
+-- a rule
+pub rule-alone : (w s : ℕ) → w < labelCount → judgesFrom labelCount ≤ s → judgeOf labelCount s ≡ record { marks = 0; negative = 0; label = w; after = w }
+    → (q r : ℕ) → wordTriple labelCount s q r ≡ stepTriple labelCount (commandOf labelCount w) q r
+unfolding stepTriple
+rule-alone w s l ls ex q r =
+    by-judge s q r ls
+    ∙ ap (λ (y : Judge). judgeTriple labelCount y q r) ex
+    ∙ no-atoms labelCount (record { marks = 0; negative = 0; label = w; after = w }) w q r refl refl (no-marks w q r)
+    ∙ ap (λ (d : Command). stepTriple labelCount d q r) (sym (rule-word w l))
+
+-- a word that is too large for a command's stands for a connect
+pub large-alone : (w : ℕ) → judgesFrom labelCount ≤ w → (q r : ℕ)
+    → wordTriple labelCount (4 * labelCount * labelCount + w % (labelCount * labelCount)) q r ≡ stepTriple labelCount (commandOf labelCount w) q r
+large-alone w h q r =
+    let s : ℕ = 4 * labelCount * labelCount + w % (labelCount * labelCount) in
+    let f : s / labelCount / labelCount ≡ 4 = omega arith in
+    let b : s / labelCount % labelCount ≡ w / labelCount % labelCount = omega arith in
+    let e : s % labelCount ≡ w % labelCount = omega arith in
+    let z = is-negative labelCount s (λ x. omega (arith, f, x)) (λ x. omega (arith, f, x)) (λ x. omega (arith, f, x)) (λ x. omega (arith, f, x)) in
+    let y = is-negative labelCount w (λ x. omega (arith, h, x)) (λ x. omega (arith, h, x)) (λ x. omega (arith, h, x)) (λ x. omega (arith, h, x)) in
+    by-command s q r (omega arith) ∙ ap (λ (d : Command). stepTriple labelCount d q r) (sym z ∙ ap₂ {C = Command} (λ u v. Connect Negative u v) b e ∙ y)
