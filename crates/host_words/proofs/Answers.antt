@@ -1,5 +1,5 @@
 -- The answer's words, written one by one, and what they tell. Assumes nothing.
-use mathlib.Core.Path.{_≡_, refl}
+use mathlib.Core.Path.{_≡_, refl, ap, _∙_}
 use mathlib.Core.List.{List, [], _∷_}
 use Prim.Native.Nat.{ℕ, _≤_, _<_}
 use native.Mathlib.Omega.{arith}
@@ -12,6 +12,9 @@ three-set [] a b c h = absurd (omega arith)
 three-set (x ∷ []) a b c h = absurd (omega arith)
 three-set (x ∷ y ∷ []) a b c h = absurd (omega arith)
 three-set (x ∷ y ∷ z ∷ xs) a b c h = refl
+
+pub three-same : {xs ys : List ℕ} {a b c a' b' c' : ℕ} → a ≡ a' → b ≡ b' → c ≡ c' → ys ≡ a ∷ b ∷ c ∷ xs → ys ≡ a' ∷ b' ∷ c' ∷ xs
+three-same {xs} {ys} {a} {b} {c} {a'} {b'} ea eb ec e = e ∙ ap (λ x. x ∷ b ∷ c ∷ xs) ea ∙ ap (λ x. a' ∷ x ∷ c ∷ xs) eb ∙ ap (λ x. a' ∷ b' ∷ x ∷ xs) ec
 
 module _ (R : Outcome → Type 0) (answer : List ℕ) where
   pub answered-short : length answer < answerWords → Answered R answer answer

@@ -1,11 +1,9 @@
 // The calls for a host in C, under the names and in the order of include/nuntennis.h. None has a `requires`.
 use host_words::ANSWER_WORDS;
 use host_words::write_answer;
-use host_words::write_words;
+use host_words::write_report;
 use records::Record;
-use reporting::Report;
 ghost use mathlib.Core.Path.{_≡_};
-ghost use Prim.Native.Nat.{_≤_};
 ghost use lib.ListN.{length};
 ghost use Rattle.labels.specs.Labels.{labelCount};
 ghost use Rattle.decisions.specs.Outcomes.{GroundedOutcome, PlainOutcome};
@@ -14,9 +12,10 @@ ghost use Rattle.reports.specs.Reports.{reportOf};
 ghost use Rattle.reporting.specs.Reporting.{reportAnswer, reportBuffer, wordsReported};
 ghost use Rattle.checks.specs.Requests.{request};
 ghost use Rattle.records.specs.Steps.{step, start, verdict};
-ghost use Rattle.host_words.specs.Answers.{answerWords, returned, unlessShort, workspaceAfter, answerOf, Answered};
+ghost use Rattle.host_words.specs.Answers.{returned, unlessShort, workspaceAfter, answerOf, Answered};
+ghost use Rattle.host_words.specs.Reported.{reportWordsOf};
 ghost use Rattle.host_words.specs.Walked.{progressWordsOf};
-ghost use Rattle.nuntennis.specs.Reported.{pairsAsked, triplesAsked, reportWordsOf};
+ghost use Rattle.nuntennis.specs.Reported.{pairsAsked, triplesAsked};
 
 // The grounded decision. The mask of a yes is the only free result: an answer set that obeys the assumptions (demand 3).
 #[no_mangle]
@@ -133,7 +132,7 @@ pub extern "C" fn nuntennis_start(
     ensures { λ r. ⌜ now (workspace .exit) ≡ unlessShort (now (answer .entry)) (now (workspace .entry)) (start labelCount (request (now (sheet .entry)) p g (length (now (workspace .entry))) «pins_in» «pins_out») (now («record» .entry)) (now (workspace .entry)) .words) ⌝ }
     ensures { λ r. ⌜ now (answer .exit) ≡ unlessShort (now (answer .entry)) (now (answer .entry)) (progressWordsOf (start labelCount (request (now (sheet .entry)) p g (length (now (workspace .entry))) «pins_in» «pins_out») (now («record» .entry)) (now (workspace .entry)) .answer) (now (answer .entry))) ⌝ }
 {
-    let t = host_words::tell_start(*record, workspace, sheet, p, g, pins_in, pins_out, answer);
+    let t = walk_calls::tell_start(*record, workspace, sheet, p, g, pins_in, pins_out, answer);
     *record = t.state;
     t.returned
 }
@@ -155,7 +154,7 @@ pub extern "C" fn nuntennis_step(
     ensures { λ r. ⌜ now (workspace .exit) ≡ unlessShort (now (answer .entry)) (now (workspace .entry)) (step labelCount (request (now (sheet .entry)) p g (length (now (workspace .entry))) «pins_in» «pins_out») (now («record» .entry)) (now (workspace .entry)) .words) ⌝ }
     ensures { λ r. ⌜ now (answer .exit) ≡ unlessShort (now (answer .entry)) (now (answer .entry)) (progressWordsOf (step labelCount (request (now (sheet .entry)) p g (length (now (workspace .entry))) «pins_in» «pins_out») (now («record» .entry)) (now (workspace .entry)) .answer) (now (answer .entry))) ⌝ }
 {
-    let t = host_words::tell_step(*record, workspace, sheet, p, g, pins_in, pins_out, answer);
+    let t = walk_calls::tell_step(*record, workspace, sheet, p, g, pins_in, pins_out, answer);
     *record = t.state;
     t.returned
 }
@@ -175,16 +174,5 @@ pub extern "C" fn nuntennis_verdict(
     ensures { λ r. ⌜ r ≡ returned (now (answer .entry)) ⌝ }
     ensures { λ r. ⌜ now (answer .exit) ≡ unlessShort (now (answer .entry)) (now (answer .entry)) (answerOf (verdict labelCount (request (now (sheet .entry)) p g (length (now (workspace .entry))) «pins_in» «pins_out») (now («record» .entry)) (now (workspace .entry))) (now (answer .entry))) ⌝ }
 {
-    host_words::tell_verdict(*record, workspace, sheet, p, g, pins_in, pins_out, answer)
-}
-
-// A report's three words; a refusal is written as that of a decision.
-fn write_report(answer: &mut [u64], r: Report)
-    requires { ⌜ answerWords ≤ length (now answer) ⌝ }
-    ensures { λ _. ⌜ now (answer .exit) ≡ reportWordsOf r (now (answer .entry)) ⌝ }
-{
-    match r {
-        Report::Written(entries, words) => write_words(answer, 1, entries, words),
-        Report::Refused(number, at) => write_words(answer, 2, number, at as u64),
-    }
+    walk_calls::tell_verdict(*record, workspace, sheet, p, g, pins_in, pins_out, answer)
 }

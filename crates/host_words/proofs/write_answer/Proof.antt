@@ -1,5 +1,6 @@
 -- `write_answer`: an outcome's three words.
 use borrow.Author.Needs.{needs}
+use Rattle.host_words.proofs.Answers.{three-same}
 use Rattle.host_words.proofs.write_answer.Statement.{statement}
 use Rattle.host_words.proofs.write_answer.Tie as tie
 use Rattle.checks.proofs.outcomes.kind.Reads as kind-reads
@@ -23,7 +24,9 @@ same-length : tie.Need-same-length
 same-length c = search needs
 
 returns : tie.Need-returns
-returns c = cc
+returns c =
+    let w = c .before .before in
+    three-same (w .before .before .before .kind .ensures) (w .before .before .value .ensures) (w .before .place .ensures) (w .write-words .ensures)
 
 pub write-answer-spec : {M : Type 1} → statement M
 write-answer-spec =

@@ -1,10 +1,10 @@
 -- `write_report`: entries and words, or a refusal.
 use mathlib.Core.Path.{sym, ap, _∙_}
 use borrow.Author.Needs.{needs}
-use Rattle.nuntennis.specs.Reported.{reportWordsOf}
-use Rattle.nuntennis.proofs.write_report.Statement.{statement}
-use Rattle.nuntennis.proofs.write_report.Tie as tie
+use Rattle.host_words.specs.Reported.{reportWordsOf}
+use Rattle.host_words.proofs.write_report.Statement.{statement}
+use Rattle.host_words.proofs.write_report.Tie as tie
 use Rattle.host_words.proofs.write_words.Reads as write-words-reads
 
 enum-known-r : tie.Need-enum-known-r
 enum-known-r c = search needs
