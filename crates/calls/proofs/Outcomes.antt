@@ -30,7 +30,8 @@ use Rattle.answers.proofs.Accepting.{none-denies, worth-affirms}
 use Rattle.walks.specs.Walks.{walkTo}
 use Rattle.walks.proofs.Whole.{whole-walk}
 use Rattle.stacks.specs.Stacks.{cleared, wordsAfter}
-use Rattle.engine.specs.Engine.{Decides, shownOutcome, plainOutcome}
+use Rattle.deciding.specs.Deciding.{Decides}
+use Rattle.engine.specs.Engine.{shownOutcome, plainOutcome}
 
 -- the least number of the newest table
 newest-low : (us : List (List Entry)) → leastIn labelCount (newest (map (map lowered) us)) ≡ leastOf (accepting labelCount) (newest us)

@@ -1,8 +1,8 @@
 // The calls of the library, as the definitions say them. None has a `requires`.
+use advances::AREAS;
 use checks::checking::check;
 use expression::Checked;
 use expression::Outcome;
-use walks::AREAS;
 ghost use mathlib.Core.Path.{_≡_};
 ghost use lib.ListN.{length};
 ghost use Rattle.labels.specs.Labels.{labelCount};

@@ -1,23 +1,18 @@
-// The tables of the leaves of an expression: of an atom under assumptions, and of a rule.
+// The rows and values of the leaves of an expression: of an atom that is in or out, and of a rule.
 use entries::Carry;
 use expression::limits::ATOM_LIMIT;
 use values::Value;
 ghost use mathlib.Core.Path.{_≡_};
-ghost use mathlib.Core.Bool.{cond};
 ghost use mathlib.Core.List.{[], _∷_};
-ghost use Prim.Native.Nat.{ℕ, _+_, _*_, _^_, _≤_, _<_};
+ghost use Prim.Native.Nat.{ℕ, _^_, _≤_, _<_};
 ghost use lib.ListN.{length};
 ghost use Rattle.labels.specs.Labels.{labelCount};
 ghost use Rattle.labels.specs.Sets.{has};
 ghost use Rattle.expression.specs.Limits.{atomLimit};
-ghost use Rattle.semantics.specs.AnswerSets.{byMasks};
-ghost use Rattle.tables.specs.Algebras.{leaf};
 ghost use Rattle.tables.specs.Triples.{markF, markU};
 ghost use Rattle.candidates.specs.Candidates.{pairOf, Readable};
-ghost use Rattle.rows.specs.Parts.{part, zeros};
-ghost use Rattle.entries.specs.Carries.{carriedBy, Keeps, Kept};
-ghost use Rattle.making.specs.Making.{Next, Puts, Finished, entryOf};
-ghost use Rattle.leaves.specs.Leaves.{algebraOf, tableAlgebra, Wide};
+ghost use Rattle.entries.specs.Carries.{carriedBy};
+ghost use Rattle.leaves.specs.Leaves.{algebraOf, Wide};
 
 // Which tables are made: Definition 5's, kept as pairs without subsets, or Definition 8's.
 pub enum Tables {
@@ -28,9 +23,6 @@ pub enum Tables {
 // labels::LABELS at the width of a word.
 const LABELS: u32 = labels::LABELS as u32;
 
-// The value of an atom that is out, and of a rule.
-const NO_VALUE: Value = Value { high: 0, low: 0 };
-
 // The set of the mark m alone.
 fn mark(m: u32) -> u32
     requires { ⌜ m < 32 ⌝ }
@@ -40,7 +32,7 @@ fn mark(m: u32) -> u32
 }
 
 // Whether the atom c is in the mask.
-fn has_atom(c: u64, mask: u64) -> bool
+pub fn has_atom(c: u64, mask: u64) -> bool
     requires { ⌜ c < atomLimit ⌝ }
     ensures { λ r. ⌜ r ≡ has c mask ⌝ }
 {
@@ -48,7 +40,7 @@ fn has_atom(c: u64, mask: u64) -> bool
 }
 
 // The value of the atom c where it is in.
-fn present_value(carry: Carry, c: u64) -> Value
+pub fn present_value(carry: Carry, c: u64) -> Value
     requires { ⌜ c < atomLimit ⌝ }
     ensures { λ r. ⌜ r ≡ carriedBy carry .present c ⌝ }
 {
@@ -88,7 +80,7 @@ fn write_subset(row: &mut [u32], q: u32, s: u32)
 }
 
 // The row of an atom of label g that is in. In tables of pairs its subset leaves it out.
-fn write_present(row: &mut [u32], tables: Tables, g: u32)
+pub fn write_present(row: &mut [u32], tables: Tables, g: u32)
     requires { ⌜ (g < labelCount) × Wide tables (length (now row)) ⌝ }
     ensures { λ _. ⌜ Readable (now (row .exit)) × ((c : ℕ) → pairOf (now (row .exit)) ≡ algebraOf tables labelCount .present c g) ⌝ }
 {
@@ -105,7 +97,7 @@ fn write_present(row: &mut [u32], tables: Tables, g: u32)
 }
 
 // The row of an atom of label g that is out.
-fn write_absent(row: &mut [u32], g: u32)
+pub fn write_absent(row: &mut [u32], g: u32)
     requires { ⌜ (g < labelCount) × (2 ≤ length (now row)) ⌝ }
     ensures { λ _. ⌜ Readable (now (row .exit)) × (pairOf (now (row .exit)) ≡ markF labelCount g ∷ []) ⌝ }
 {
@@ -113,134 +105,9 @@ fn write_absent(row: &mut [u32], g: u32)
 }
 
 // The row of a rule of label g, which is unmet.
-fn write_unmet(row: &mut [u32], g: u32)
+pub fn write_unmet(row: &mut [u32], g: u32)
     requires { ⌜ (g < labelCount) × (2 ≤ length (now row)) ⌝ }
     ensures { λ _. ⌜ Readable (now (row .exit)) × (pairOf (now (row .exit)) ≡ markU labelCount g ∷ []) ⌝ }
 {
     write_triple(row, mark(2 * LABELS + g));
-}
-
-// The pair in `row`, with the value v, put into the table that is being made at word `to`, unless it is excluded. The answer is as making::put_entry's.
-fn put_unless(
-    ws: &mut [u32],
-    row: &[u32],
-    index: &mut [u32],
-    vals: &mut [u64],
-    carry: Carry,
-    w: usize,
-    p: usize,
-    to: usize,
-    m: usize,
-    v: Value,
-    excluded: bool,
-) -> usize
-    requires { ⌜ (2 ≤ w) × (p ≤ 1024) × (to + p * w ≤ length (now ws)) ⌝ }
-    requires { ⌜ Readable (now row) × (length (now row) ≡ w) × Keeps carry v ⌝ }
-    requires { ⌜ Next carry w p to m (cond excluded [] (entryOf (now row) v ∷ [])) (now ws) (now index) (now vals) ⌝ }
-    ensures { λ r. ⌜ Puts carry w p to m (cond excluded [] (entryOf (now (row .entry)) v ∷ [])) r (now (ws .entry)) (now (index .entry)) (now (vals .entry)) (now (ws .exit)) (now (index .exit)) (now (vals .exit)) ⌝ }
-{
-    if excluded {
-        return m;
-    }
-    making::put_entry(ws, row, index, vals, carry, w, p, to, m, v)
-}
-
-// The entries of the atom c of label g put into a new table at word `to`: the present one unless the atom is assumed false, the absent one unless it is
-// assumed true. The answer is as making::put_entry's.
-fn put_leaf(
-    ws: &mut [u32],
-    row: &mut [u32],
-    index: &mut [u32],
-    vals: &mut [u64],
-    tables: Tables,
-    carry: Carry,
-    w: usize,
-    p: usize,
-    to: usize,
-    c: u64,
-    g: u32,
-    assumed_true: u64,
-    assumed_false: u64,
-) -> usize
-    requires { ⌜ Wide tables w × (p ≤ 1024) × (length (now row) ≡ w) × (g < labelCount) × (c < atomLimit) × (to + p * w ≤ length (now ws)) ⌝ }
-    requires { ⌜ Next carry w p to 0 (leaf (tableAlgebra tables carry) (byMasks «assumed_true» «assumed_false») c g) (now ws) (now index) (now vals) ⌝ }
-    ensures { λ r. ⌜ Puts carry w p to 0 (leaf (tableAlgebra tables carry) (byMasks «assumed_true» «assumed_false») c g) r (now (ws .entry)) (now (index .entry)) (now (vals .entry)) (now (ws .exit)) (now (index .exit)) (now (vals .exit)) ⌝ }
-{
-    write_present(row, tables, g);
-    let v = present_value(carry, c);
-    let is_false = has_atom(c, assumed_false);
-    let m = put_unless(ws, row, index, vals, carry, w, p, to, 0, v, is_false);
-    write_absent(row, g);
-    let is_true = has_atom(c, assumed_true);
-    put_unless(ws, row, index, vals, carry, w, p, to, m, NO_VALUE, is_true)
-}
-
-// The table of the atom c of label g under assumptions, put at word `at`, where a table of no rows is; made in the words from `to` on. The answer is how
-// many rows it has; p + 1 where there are more than p, and nothing changes then.
-pub fn atom_table(
-    ws: &mut [u32],
-    row: &mut [u32],
-    index: &mut [u32],
-    vals: &mut [u64],
-    tables: Tables,
-    carry: Carry,
-    w: usize,
-    p: usize,
-    at: usize,
-    to: usize,
-    c: u64,
-    g: u32,
-    assumed_true: u64,
-    assumed_false: u64,
-) -> usize
-    requires { ⌜ Wide tables w × (p ≤ 1024) × (length (now row) ≡ w) × (g < labelCount) × (c < atomLimit) ⌝ }
-    requires { ⌜ (at + p * w ≤ to) × (to + p * w ≤ length (now ws)) ⌝ }
-    requires { ⌜ (part at (p * w) (now ws) ≡ zeros (p * w)) × (part to (p * w) (now ws) ≡ zeros (p * w)) × (p ≤ length (now index)) × Kept carry p 0 (now vals) ⌝ }
-    ensures { λ r. ⌜ Finished carry w p at (leaf (tableAlgebra tables carry) (byMasks «assumed_true» «assumed_false») c g) r (now (ws .entry)) (now (ws .entry)) (now (ws .exit)) (now (vals .exit)) ⌝ }
-    ensures { λ r. ⌜ r ≤ p + 1 ⌝ }
-{
-    let r = put_leaf(
-        ws,
-        row,
-        index,
-        vals,
-        tables,
-        carry,
-        w,
-        p,
-        to,
-        c,
-        g,
-        assumed_true,
-        assumed_false,
-    );
-    making::settle(ws, row, index, w, p, r, 0, at, to);
-    r
-}
-
-// The table of a rule of label g, put at word `at`, where a table of no rows is; made in the words from `to` on. The answer is how many rows it has. The
-// row is the same whichever tables are made.
-pub fn rule_table(
-    ws: &mut [u32],
-    row: &mut [u32],
-    index: &mut [u32],
-    vals: &mut [u64],
-    tables: Tables,
-    carry: Carry,
-    w: usize,
-    p: usize,
-    at: usize,
-    to: usize,
-    g: u32,
-) -> usize
-    requires { ⌜ (2 ≤ w) × (1 ≤ p) × (p ≤ 1024) × (length (now row) ≡ w) × (g < labelCount) ⌝ }
-    requires { ⌜ (at + p * w ≤ to) × (to + p * w ≤ length (now ws)) ⌝ }
-    requires { ⌜ (part at (p * w) (now ws) ≡ zeros (p * w)) × (part to (p * w) (now ws) ≡ zeros (p * w)) × (p ≤ length (now index)) × Kept carry p 0 (now vals) ⌝ }
-    ensures { λ r. ⌜ Finished carry w p at (tableAlgebra tables carry .unmet g ∷ []) r (now (ws .entry)) (now (ws .entry)) (now (ws .exit)) (now (vals .exit)) ⌝ }
-    ensures { λ r. ⌜ r ≤ p ⌝ }
-{
-    write_unmet(row, g);
-    let m = making::put_entry(ws, row, index, vals, carry, w, p, to, 0, NO_VALUE);
-    making::settle(ws, row, index, w, p, m, 0, at, to);
-    m
 }

@@ -7,6 +7,7 @@ ghost use Rattle.labels.specs.Labels.{labelCount};
 ghost use Rattle.decisions.specs.Outcomes.{verdictOf};
 ghost use Rattle.checks.specs.Requests.{request};
 ghost use Rattle.listing.specs.Listing.{isRefusal, eitherRefused, lastStart, PairsFrom};
+use advances::AREAS;
 use calls::grounded;
 use calls::plain;
 use checks::outcomes::kind;
@@ -20,7 +21,6 @@ use libc::STDIN_FILENO;
 use libc::STDOUT_FILENO;
 use report_calls::report;
 use reporting::Report;
-use walks::AREAS;
 
 // Of pairs, and of subsets in a pair.
 const LIMIT: u64 = 32;

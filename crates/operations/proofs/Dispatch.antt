@@ -20,7 +20,7 @@ use Rattle.making.specs.Making.{tableOfAll}
 use Rattle.leaves.specs.declared.Tables.{Tables}
 use Rattle.leaves.specs.declared.Tables.the-variants.{Plain, Pairs}
 use Rattle.leaves.specs.Leaves.{algebraOf, tableAlgebra}
-use Rattle.leaves.proofs.Leaves.{atom-operation, rule-operation}
+use Rattle.leaf_tables.proofs.Leaves.{atom-operation, rule-operation}
 use Rattle.workspace.specs.Workspace.{Acted}
 use Rattle.operations.specs.Operations.{Acts, Meets, pushed, unitedTable, mappedTable}
 

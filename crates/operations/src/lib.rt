@@ -167,7 +167,7 @@ fn push_atom(
     ensures { λ r. ⌜ ((n m : ℕ) → Acts carry d w p t n m (pushed (tableOfAll carry (leaf (tableAlgebra tables carry) (byMasks «assumed_true» «assumed_false») a g))) r (now (ws .entry)) (now (vals .entry)) (now (ws .exit)) (now (vals .exit)) (now (made .exit))) ⌝ }
 {
     let area = p * w;
-    let r = leaves::atom_table(
+    let r = leaf_tables::atom_table(
         ws,
         row,
         index,
@@ -210,7 +210,7 @@ fn push_rule(
     ensures { λ r. ⌜ ((n m : ℕ) → Acts carry d w p t n m (pushed (tableOfAll carry (tableAlgebra tables carry .unmet g ∷ []))) r (now (ws .entry)) (now (vals .entry)) (now (ws .exit)) (now (vals .exit)) (now (made .exit))) ⌝ }
 {
     let area = p * w;
-    let r = leaves::rule_table(
+    let r = leaf_tables::rule_table(
         ws,
         row,
         index,

@@ -1,5 +1,4 @@
 // The checks that come before any table: 1 to 14 in 01's order.
-use crate::Request;
 use expression::limits::BYTE_LIMIT;
 use expression::limits::TABLE_LIMIT;
 use expression::refusals::ABSENT;
@@ -9,6 +8,7 @@ use expression::refusals::LIMITS;
 use expression::refusals::OFFSET;
 use expression::refusals::OVERLONG;
 use expression::refusals::UNJOINED;
+use oracle_tables::Request;
 use policies::Policy;
 use policies::no_policy;
 use policies::refused;

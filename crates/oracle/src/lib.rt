@@ -3,26 +3,6 @@
 // mean is proved (crate meaning); all else here is proved to stay within bounds and to end, and is right as far as it is tried (crate trials).
 pub mod answering;
 pub mod checking;
-pub mod tabulating;
-pub mod triples;
-
-// The arguments of a decision or a report beside the sheet.
-pub struct Request {
-    // P and G of 01
-    pub pair_limit: u64,
-    pub subset_limit: u64,
-    // words of the workspace
-    pub room: u64,
-    // the pins as masks
-    pub assumed_true: u64,
-    pub assumed_false: u64,
-    // of the plain tables
-    pub is_plain: bool,
-    // of the table after the command at an offset, for a buffer of so many words; else a decision
-    pub is_report: bool,
-    pub asked: usize,
-    pub buffer: u64,
-}
 
 // What a decision or a report answers: the value of a yes is the least mask that may be shown; a report has the kind YES, its number of entries for a
 // value, and in place of a place its number of words.

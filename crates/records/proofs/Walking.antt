@@ -31,7 +31,7 @@ use Rattle.tables.specs.Definitions.{Pair, pairs, groundedAccepts}
 use Rattle.decisions.specs.Decisions.{assumed, commandsIn, pairsFault, newest, Walked, stopped, walked, walk, answer}
 use Rattle.workspace.specs.Workspace.{stackWords, workspaceOf}
 use Rattle.operations.specs.Operations.{Meets}
-use Rattle.walks.proofs.Steps.{passes-meets, act-deep, walk-nil, walk-on, walk-stops}
+use Rattle.advances.proofs.Steps.{passes-meets, act-deep, walk-nil, walk-on, walk-stops}
 use Rattle.records.specs.declared.Record.{Record}
 use Rattle.records.specs.declared.Progress.{Progress}
 use Rattle.records.specs.declared.Progress.the-variants.{Ended, Refused}

@@ -1,4 +1,5 @@
 // The reports of the library, as the definitions say them. None has a `requires`.
+use advances::AREAS;
 use checks::checking::check;
 use checks::locating::locate;
 use expression::Checked;
@@ -6,7 +7,6 @@ use expression::Located;
 use expression::refusals::OFFSET;
 use leaves::Tables;
 use reporting::Report;
-use walks::AREAS;
 ghost use mathlib.Core.Path.{_≡_};
 ghost use lib.ListN.{length};
 ghost use Rattle.labels.specs.Labels.{labelCount};

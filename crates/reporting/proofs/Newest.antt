@@ -18,8 +18,8 @@ use Rattle.workspace.specs.Workspace.{pairsOf}
 use Rattle.stacks.specs.Stacks.{countBelow}
 use Rattle.operations.specs.Operations.{Loaded}
 use Rattle.operations.proofs.Loads.{Stands as Operand, below, inside, newer-stands, stands-rows, stands-pairs}
-use Rattle.walks.specs.Walks.{Stands}
-use Rattle.walks.proofs.Advancing.{loaded}
+use Rattle.advances.specs.Advances.{Stands}
+use Rattle.advances.proofs.Advancing.{loaded}
 use Rattle.reports.specs.Reports.{reportOf}
 use Rattle.reporting.specs.declared.Report.{Report}
 use Rattle.reporting.specs.declared.Report.the-variants.{Written, Refused}

@@ -1,34 +1,27 @@
--- What start, step and verdict are, by what the checks and the test of the record find. Over K labels. Assumes nothing.
+-- What start and step are, by what the checks and the test of the record find. Over K labels. Assumes nothing.
 use mathlib.Core.Path.{_≡_, refl, sym, ap, _∙_}
-use mathlib.Core.Bool.{Bool, true, false, cond, _&&_}
 use mathlib.Core.List.{List, [], _∷_}
 use Prim.Native.Nat.{ℕ, zero, suc, _<_}
 use native.Mathlib.Omega.{arith}
-use lib.ListN.{length, take, drop}
-use borrow.Author.Tests.{eq-eqb, ne-eqb}
 use Rattle.expression.specs.declared.Checked.the-variants as checked
 use Rattle.expression.specs.declared.Command.{Command}
 use Rattle.expression.specs.declared.Counts.{Counts}
 use Rattle.expression.specs.declared.Located.the-variants.{Before, Nowhere}
-use Rattle.expression.specs.declared.Outcome.the-variants as outcome
 use Rattle.expression.specs.declared.Read.the-variants.{Command as Got, Fault}
-use Rattle.expression.specs.Limits.{rowWords, workspaceNeed}
+use Rattle.expression.specs.Limits.{workspaceNeed}
 use Rattle.expression.specs.Refusals.{badRecord}
 use Rattle.expression.specs.Commands.{readAt}
 use Rattle.expression.specs.Checks.{Request, check}
-use Rattle.expression.specs.Places.{locate}
 use Rattle.semantics.specs.Expressions.{act}
 use Rattle.tables.specs.Algebras.{tables}
-use Rattle.tables.specs.Definitions.{Pair, pairs, groundedAccepts}
+use Rattle.tables.specs.Definitions.{Pair, pairs}
 use Rattle.decisions.specs.Decisions.{assumed, pairsFault, newest}
 use Rattle.workspace.specs.Workspace.{stackCounts, countsOf}
 use Rattle.stacks.specs.Stacks.{cleared}
-use Rattle.forms.specs.Forms.{areZero, areTables}
-use Rattle.checks.specs.Requests.{request}
 use Rattle.records.specs.declared.Record.{Record}
 use Rattle.records.specs.declared.Progress.{Progress}
 use Rattle.records.specs.declared.Progress.the-variants.{Moved, Ended, Refused}
-use Rattle.records.specs.Steps.{Step, stays, startRecord, found, isFormed, formedAt, moves, moveTo, command, step, start, conclusion, verdict}
+use Rattle.records.specs.Steps.{Step, stays, startRecord, found, formedAt, moves, moveTo, command, step, start}
 use Rattle.steps.specs.Stepping.{Follows}
 
 module _ (K : ℕ) (a : Request) (r : Record) (ws : List ℕ) where
@@ -46,10 +39,6 @@ module _ (K : ℕ) (a : Request) (r : Record) (ws : List ℕ) where
     unfolding step
     step-refused = rw (h, step)
 
-    pub verdict-refused : verdict K a r ws ≡ outcome.Refused n at
-    unfolding verdict
-    verdict-refused = rw (h, verdict)
-
   -- ---- all checks pass
 
   module _ {z : Counts} (h : check K a ≡ checked.Passed z) where
@@ -63,42 +52,11 @@ module _ (K : ℕ) (a : Request) (r : Record) (ws : List ℕ) where
       unfolding step
       step-unformed = rw (h, step, e)
 
-      pub verdict-unformed : verdict K a r ws ≡ outcome.Refused badRecord (r .place)
-      unfolding verdict
-      verdict-unformed = rw (h, verdict, e)
-
     -- it has
     module _ {n : Counts} (e : formedAt K a r ws ≡ Before n) where
       pub step-formed : step K a r ws ≡ command K a n r ws
       unfolding step
       step-formed = rw (h, step, e)
-
-      pub verdict-formed : verdict K a r ws ≡ conclusion K a r ws
-      unfolding verdict
-      verdict-formed = rw (h, verdict, e)
-
-  -- ---- the test of the record
-
-  pub unlocated : locate K (a .bytes) (r .place) ≡ Nowhere → formedAt K a r ws ≡ Nowhere
-  unfolding formedAt
-  unlocated e = rw (e, formedAt)
-
-  module _ {n : Counts} (e : locate K (a .bytes) (r .place) ≡ Before n) where
-    pub miscounted : (r .tables ≡ n .depth → ⊥) → formedAt K a r ws ≡ Nowhere
-    unfolding formedAt isFormed
-    miscounted l = rw (e, formedAt, ne-eqb (r .tables) (n .depth) l)
-
-    module _ (l : r .tables ≡ n .depth) (b : Bool)
-        (f : b ≡ (areZero (drop (r .tables) (r .counts)) && areTables K (rowWords (a .subsetLimit)) (a .pairLimit) (take (r .tables) (r .counts)) (take need ws))) where
-      formed-by : formedAt K a r ws ≡ cond b (Before n) Nowhere
-      unfolding formedAt isFormed
-      formed-by = rw (e, formedAt, eq-eqb (r .tables) (n .depth) l, ← f)
-
-      pub malformed : b ≡ false → formedAt K a r ws ≡ Nowhere
-      malformed g = formed-by ∙ rw g
-
-      pub well-formed : b ≡ true → formedAt K a r ws ≡ Before n
-      well-formed g = formed-by ∙ rw g
 
   -- ---- the command
 
@@ -121,16 +79,6 @@ module _ (K : ℕ) (a : Request) (r : Record) (ws : List ℕ) where
     move-refused zero l e = absurd (omega arith)
     move-refused (suc f) l e = rw (e, moveTo)
 
-  -- ---- the verdict
-
-  pub conclusion-early : (r .place ≡ length (a .bytes) → ⊥) → conclusion K a r ws ≡ outcome.Refused badRecord (r .place)
-  unfolding conclusion
-  conclusion-early l = rw (ne-eqb (r .place) (length (a .bytes)) l)
-
-  pub conclusion-ended : r .place ≡ length (a .bytes) → conclusion K a r ws ≡ cond (groundedAccepts K (newest (found K a r ws))) (outcome.Yes 0) outcome.No
-  unfolding conclusion
-  conclusion-ended e = rw (eq-eqb (r .place) (length (a .bytes)) e)
-
 -- ---- what a call hands back, by what the definition is
 
 pub by-stays : {x : Step} {q : Progress} {r : Record} {ws : List ℕ} → x ≡ stays q r ws → (q' : Progress) → q' ≡ q → Follows x r q' ws
@@ -145,8 +93,3 @@ pub start-follows : (K : ℕ) (a : Request) (r : Record) (ws : List ℕ) {z : Co
     → Follows (start K a r ws) (record { place = 0; tables = 0; counts = 0 ∷ 0 ∷ 0 ∷ 0 ∷ 0 ∷ 0 ∷ 0 ∷ 0 ∷ [] }) Moved ws'
 unfolding startRecord countsOf stackCounts
 start-follows K a r ws h e = by-all (start-passed K a r ws h) (refl, refl, e)
-
--- the assumptions are of no concern where no command acts
-pub conclusion-any : (K : ℕ) (s : List ℕ) (p g room i o i' o' : ℕ) (r : Record) (ws : List ℕ) → conclusion K (request s p g room i o) r ws ≡ conclusion K (request s p g room i' o') r ws
-unfolding conclusion
-conclusion-any K s p g room i o i' o' r ws = refl

@@ -22,14 +22,14 @@ use Rattle.leaves.specs.declared.Tables.the-variants.{Pairs}
 use Rattle.leaves.specs.Leaves.{algebraOf, tableAlgebra}
 use Rattle.workspace.specs.Workspace.{workspaceOf, pairsOf, countsOf, faultOf}
 use Rattle.stacks.proofs.Clearing.{counts-pairs}
-use Rattle.walks.specs.Walks.{Advanced}
-use Rattle.walks.proofs.Steps.{fault-none, fault-some}
+use Rattle.advances.specs.Advances.{Advanced}
+use Rattle.advances.proofs.Steps.{fault-none, fault-some}
 use Rattle.records.specs.declared.Record.{Record}
 use Rattle.records.specs.declared.Progress.the-variants.{Moved, Refused}
 use Rattle.records.specs.Steps.{moves, moveTo}
 use Rattle.steps.specs.Stepping.{Follows}
 use Rattle.steps.proofs.Cases.{by-stays, by-all, move-done, move-refused}
-use Rattle.steps.proofs.Standing.{bare, bare-tables, newest-pairs}
+use Rattle.advances.proofs.Bare.{bare, bare-tables, newest-pairs}
 
 module _ (a : Request) (n : ℕ) (c : Command) (ts : List (List Pair)) where
   -- the tables that the code makes, and those of the definition

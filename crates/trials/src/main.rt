@@ -6,8 +6,8 @@ ghost use lib.ListN.{length, take};
 use libc::STDIN_FILENO;
 use libc::STDOUT_FILENO;
 use oracle::Answer;
-use oracle::Request;
 use oracle::answering::answer;
+use oracle_tables::Request;
 
 // ---- the list: pairs of hexadecimal digits; a line that starts with # says what follows
 

@@ -92,7 +92,7 @@ pub fn tell_verdict(
     if answer.len() < ANSWER_WORDS {
         return 0;
     }
-    let o = steps::verdict(state, workspace, sheet, p, g, pins_in, pins_out);
+    let o = verdicts::verdict(state, workspace, sheet, p, g, pins_in, pins_out);
     write_answer(answer, o);
     1
 }

@@ -30,8 +30,10 @@ use Rattle.workspace.specs.Workspace.{pairsOf, faultOf}
 use Rattle.stacks.specs.Stacks.{Counted}
 use Rattle.stacks.proofs.Clearing.{holds-counted}
 use Rattle.operations.specs.Operations.{Meets}
-use Rattle.walks.specs.Walks.{Stands, Advanced, before, walkTo}
-use Rattle.walks.proofs.Steps.{passes-meets, act-deep, some-after, walk-nil, walk-on, walk-stops, before-nil, before-more, before-none, fault-none, fault-some}
+use Rattle.advances.specs.Advances.{Stands, Advanced}
+use Rattle.advances.proofs.Steps.{passes-meets, act-deep, some-after, walk-nil, walk-on, walk-stops, fault-none, fault-some}
+use Rattle.walks.specs.Walks.{before, walkTo}
+use Rattle.walks.proofs.Before.{before-nil, before-more, before-none}
 
 module _ (kind : Tables) (carry : Carry) (o : Assumptions) (w p stop : ℕ) (s : List ℕ) where
   abbrev B : Operations (List Entry)

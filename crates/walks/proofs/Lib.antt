@@ -1,8 +1,4 @@
-pub mod Steps
+pub mod Before
 pub mod Going
 pub mod Whole
-pub mod Advancing
-pub mod Clear
-pub mod Last
-pub mod Keeping
 pub mod Stretching

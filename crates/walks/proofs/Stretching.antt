@@ -3,8 +3,7 @@ use mathlib.Core.Path.{_≡_, refl, sym, ap, _∙_, subst}
 use mathlib.Core.List.{List, [], _∷_}
 use Prim.Native.Nat.{ℕ, _+_, _-_, _≤_, _<_}
 use native.Mathlib.Omega.{arith}
-use lib.ListN.{length, take, length-map}
-use lib.Seq.{length-take-le}
+use lib.ListN.{length}
 use Rattle.lists.specs.Lists.{All}
 use Rattle.lists.specs.Sorted.{insert, insertAll, canon}
 use Rattle.labels.specs.Labels.{labelCount}
@@ -23,7 +22,6 @@ use Rattle.tables.specs.Definitions.{pairs, flat}
 use Rattle.tables.specs.Algebras.{tables}
 use Rattle.values.specs.Values.{valued}
 use Rattle.decisions.specs.Decisions.{newest, pairsFault}
-use Rattle.batches.specs.Batches.{commandOf, commandsOf}
 use Rattle.entries.specs.declared.Carry.{Carry}
 use Rattle.entries.specs.Carries.{Entry, entryAlgebra, carriedBy}
 use Rattle.making.specs.Making.{tableOfAll}
@@ -37,9 +35,9 @@ use Rattle.operations.specs.Operations.{unitedTable}
 use Rattle.operations.proofs.Dispatch.{rule-acts, union-acts, relabel-acts, connect-acts}
 use Rattle.stretches.specs.declared.Stretch.{Stretch}
 use Rattle.stretches.specs.Stretches.{Spelt, Chain, joinedCounts, chainCounts}
-use Rattle.walks.specs.Walks.{Stands, Ahead, stretched}
+use Rattle.ahead.specs.Ahead.{Ahead, stretched}
+use Rattle.ahead.proofs.Keeping.{batched-sound, one-sound, kept-fault}
 use Rattle.walks.proofs.Going.{Leading, Going, lead-on}
-use Rattle.walks.proofs.Keeping.{batched-sound, one-sound, kept-fault}
 
 -- the first command, then the others
 stretch-more : (carry : Carry) (c : Command) (cs : List Command) (x : List Entry) (us : List (List Entry)) → stretched carry cs (batchedTable carry (c ∷ []) x ∷ us) ≡ stretched carry (c ∷ cs) (x ∷ us)
@@ -122,28 +120,3 @@ module _ (kind : Tables) (carry : Carry) (o : Assumptions) (w p stop : ℕ) (s :
           empty : (cs : List Command) → Chain labelCount s stop at (r .next) cs → cs ≡ [] → L z (r .next) (chainCounts n cs) (stretched carry cs [])
           empty [] c e = subst (λ k. L z k n []) c l
           empty (y ∷ cs) c e = absurd (omega (arith, ap (λ (t : List Command). length t) e))
-
--- ---- what was done
-
-pub no-words : (ops : List ℕ) (k : ℕ) → k ≡ 0 → commandsOf (take k ops) ≡ []
-no-words ops k e = rw e
-
-pub some-words : (ops : List ℕ) (k : ℕ) → k ≤ length ops → (k ≡ 0 → ⊥) → 0 < length (commandsOf (take k ops))
-some-words ops k l h = omega (arith, length-map (take k ops) (commandOf labelCount), length-take-le k ops l, h)
-
-module _ {carry : Carry} {w p stop at : ℕ} {n : Counts} {s : List ℕ} {ts : List (List Entry)} {beyond : List ℕ} {r : Stretch} {ws' vals' counts' : List ℕ} (cs : List Command)
-    (chain : Chain labelCount s stop at (r .next) cs) (after : r .counts ≡ chainCounts n cs) (small : All (Small carry) (newest ts)) where
-  -- nothing
-  pub none-done : cs ≡ [] → Stands carry (depthLimit + 1) w p ts beyond ws' vals' counts' → Ahead carry (depthLimit + 1) w p stop at n s ts beyond r ws' vals' counts'
-  none-done e h =
-      record { done = cs; chain = chain; after = after; none = λ l. e; small = small; stands = subst (λ (x : List Command). Stands carry (depthLimit + 1) w p (stretched carry x ts) beyond ws' vals' counts') (sym e) h }
-
-  -- something, on a table that is there
-  pub some-done : 0 < length cs → 1 ≤ length ts → Stands carry (depthLimit + 1) w p (changeNewest (batchedTable carry cs) ts) beyond ws' vals' counts'
-      → Ahead carry (depthLimit + 1) w p stop at n s ts beyond r ws' vals' counts'
-  some-done l one h =
-      record { done = cs; chain = chain; after = after; none = λ k. absurd (omega (arith, one, k)); small = small; stands = subst (λ (x : List (List Entry)). Stands carry (depthLimit + 1) w p x beyond ws' vals' counts') (sym (some-stretched cs l)) h }
-    where
-      some-stretched : (ds : List Command) → 0 < length ds → stretched carry ds ts ≡ changeNewest (batchedTable carry ds) ts
-      some-stretched [] k = absurd (omega arith)
-      some-stretched (d ∷ ds) k = refl

@@ -28,7 +28,7 @@ use Rattle.leaves.specs.declared.Tables.the-variants.{Plain, Pairs}
 use Rattle.leaves.specs.Leaves.{algebraOf, tableAlgebra}
 use Rattle.workspace.specs.Workspace.{pairsOf}
 use Rattle.walks.specs.Walks.{before, walkTo}
-use Rattle.walks.proofs.Steps.{before-nil, before-more}
+use Rattle.walks.proofs.Before.{before-nil, before-more}
 
 -- every command starts before the end
 before-all : (K k : ℕ) (s : List ℕ) (at : ℕ) (n : Counts) (cs : List Placed) (z : Counts) → readFrom K k s at n ≡ whole cs z → before (length s) cs ≡ cs

@@ -2,57 +2,24 @@
 use mathlib.Core.Path.{_≡_}
 use mathlib.Core.Bool.{cond}
 use mathlib.Core.List.{List, [], _∷_}
-use Prim.Native.Nat.{ℕ, _+_, _-_, _≤_, _<_}
+use Prim.Native.Nat.{ℕ, _-_, _≤_, _<_}
 use lib.Dec.{ltb}
 use lib.ListN.{length}
-use Rattle.lists.specs.Lists.{All}
 use Rattle.labels.specs.Labels.{labelCount}
-use Rattle.expression.specs.declared.Command.{Command}
-use Rattle.expression.specs.declared.Counts.{Counts}
-use Rattle.expression.specs.Limits.{depthLimit}
 use Rattle.expression.specs.Reading.{Placed, reading}
-use Rattle.semantics.specs.Expressions.{changeNewest}
 use Rattle.semantics.specs.AnswerSets.{Assumptions}
 use Rattle.tables.specs.Algebras.{tables}
 use Rattle.tables.specs.Definitions.{Pair}
-use Rattle.decisions.specs.Decisions.{Walked, stopped, walked, newest, walk, commandsIn, pairsFault}
+use Rattle.decisions.specs.Decisions.{Walked, stopped, walked, walk, commandsIn, pairsFault}
 use Rattle.entries.specs.declared.Carry.{Carry}
 use Rattle.entries.specs.Carries.{Entry}
 use Rattle.leaves.specs.declared.Tables.{Tables}
 use Rattle.leaves.specs.Leaves.{tableAlgebra}
-use Rattle.maps.specs.Maps.{batchedTable, Small}
-use Rattle.stretches.specs.declared.Stretch.{Stretch}
-use Rattle.stretches.specs.Stretches.{Chain, chainCounts}
-use Rattle.workspace.specs.Workspace.{pairsOf, countsOf, Holds, faultOf}
+use Rattle.workspace.specs.Workspace.{pairsOf}
 use Rattle.stacks.specs.Stacks.{Counted}
+use Rattle.advances.specs.Advances.{Stands}
 use Rattle.walks.specs.declared.Reached.{Reached}
 use Rattle.walks.specs.declared.Reached.the-variants.{Stopped, Through}
-
--- a workspace, the words of values and the counts hold the tables
-pub record Stands (carry : Carry) (d w p : ℕ) (ts : List (List Entry)) (beyond ws vals counts : List ℕ) : Type 0 where
-  pub holds : Holds carry d w p ts beyond ws vals
-  pub tallies : counts ≡ countsOf depthLimit ts
-
--- a command whose stack is us then answers r: the tables stand, or it is refused and nothing changed
-pub record Advanced (carry : Carry) (d w p : ℕ) (us : List (List Entry)) (beyond : List ℕ) (r : ℕ) (ws counts ws' vals' counts' : List ℕ) : Type 0 where
-  pub most : r ≤ p + 2
-  pub fault : faultOf p r ≡ pairsFault p (w - 2) (pairsOf (newest us))
-  pub stands : r ≤ p → Stands carry d w p us beyond ws' vals' counts'
-  pub same : p < r → (ws' ≡ ws) × (counts' ≡ counts)
-
--- the stack after commands that are done at once on the newest table
-abbrev pub stretched : Carry → List Command → List (List Entry) → List (List Entry)
-stretched carry [] ts = ts
-stretched carry (c ∷ cs) ts = changeNewest (batchedTable carry (c ∷ cs)) ts
-
--- the commands from an offset on, after counts n, done at once on a stack: how far they go, and what stands then
-pub record Ahead (carry : Carry) (d w p stop at : ℕ) (n : Counts) (s : List ℕ) (ts : List (List Entry)) (beyond : List ℕ) (r : Stretch) (ws' vals' counts' : List ℕ) : Type 0 where
-  pub done : List Command
-  pub chain : Chain labelCount s stop at (r .next) done
-  pub after : r .counts ≡ chainCounts n done
-  pub none : length ts ≡ 0 → done ≡ []
-  pub small : All (Small carry) (newest ts)
-  pub stands : Stands carry d w p (stretched carry done ts) beyond ws' vals' counts'
 
 -- the commands that start before an offset
 unfoldable pub before : ℕ → List Placed → List Placed

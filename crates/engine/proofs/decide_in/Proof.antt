@@ -7,7 +7,7 @@ use native.Mathlib.Omega.{arith}
 use borrow.Author.Needs.{needs}
 use Rattle.engine.proofs.decide_in.Statement.{statement}
 use Rattle.engine.proofs.decide_in.Tie as tie
-use Rattle.engine.proofs.decide.Reads as decide-reads
+use Rattle.deciding.proofs.decide.Reads as decide-reads
 
 words-of-requires : tie.Need-words-of-requires
 words-of-requires c κs = search needs

@@ -9,8 +9,8 @@ use Rattle.decisions.specs.Decisions.{newest}
 use Rattle.entries.specs.declared.Carry.the-variants.{Nothing}
 use Rattle.entries.specs.Carries.{Entry}
 use Rattle.workspace.specs.Workspace.{pairsOf}
-use Rattle.walks.specs.Walks.{Stands}
-use Rattle.walks.proofs.Advancing.{counts-reach}
+use Rattle.advances.specs.Advances.{Stands}
+use Rattle.advances.proofs.Advancing.{counts-reach}
 use Rattle.reports.specs.Reports.{reportOf}
 use Rattle.reporting.proofs.Newest.{many, newest-inside, newest-rows, newest-pairs, too-short, long-enough}
 use borrow.Author.Needs.{needs}

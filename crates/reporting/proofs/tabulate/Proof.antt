@@ -13,9 +13,10 @@ use Rattle.workspace.specs.Workspace.{pairsOf}
 use Rattle.stacks.proofs.Clearing.{holds-counted}
 use Rattle.walks.specs.declared.Reached.{Reached}
 use Rattle.walks.specs.declared.Reached.the-variants.{Through}
-use Rattle.walks.specs.Walks.{Stands, Reaches}
+use Rattle.advances.specs.Advances.{Stands}
+use Rattle.walks.specs.Walks.{Reaches}
 use Rattle.reports.specs.Reports.{reportOf}
-use Rattle.walks.proofs.Clear.{behind, stands-clear, all-clear}
+use Rattle.advances.proofs.Clear.{behind, stands-clear, all-clear}
 use Rattle.reporting.specs.Reporting.{newestIn, reportAnswer, reportBuffer}
 use borrow.Author.Needs.{needs}
 use native.Mathlib.Omega.{arith}

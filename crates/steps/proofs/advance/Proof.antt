@@ -12,7 +12,7 @@ use Rattle.steps.proofs.advance.Statement.{statement}
 use Rattle.steps.proofs.advance.Tie as tie
 use Rattle.checks.proofs.checking.check.Reads as check-reads
 use Rattle.steps.proofs.command.Reads as command-reads
-use Rattle.steps.proofs.formed_at.Reads as formed-at-reads
+use Rattle.record_tests.proofs.formed_at.Reads as formed-at-reads
 use Rattle.steps.proofs.refusal.Reads as refusal-reads
 
 abbrev asked : tie.Start → Request

@@ -11,22 +11,22 @@ use Rattle.expression.specs.Limits.{depthLimit, workspaceNeed}
 use Rattle.expression.specs.Checks.{Request}
 use Rattle.expression.specs.Commands.{readAt}
 use Rattle.entries.specs.declared.Carry.the-variants.{Nothing}
-use Rattle.walks.specs.Walks.{Stands, Advanced}
+use Rattle.advances.specs.Advances.{Stands, Advanced}
 use Rattle.checks.specs.Requests.{request}
 use Rattle.checks.proofs.Passing.{accepted}
 use Rattle.records.specs.Steps.{found, moveTo, command}
 use Rattle.steps.proofs.Cases.{command-none, command-read, by-stays, by-all}
-use Rattle.steps.proofs.Standing.{bare}
-use Rattle.steps.proofs.Forming.{stands, bare-many, suits, meets, tables-after}
-use Rattle.steps.proofs.Lengths.{eight}
+use Rattle.advances.proofs.Bare.{bare}
+use Rattle.record_tests.proofs.Forming.{stands, bare-many, suits, meets, tables-after}
+use Rattle.record_tests.proofs.Lengths.{eight}
 use Rattle.steps.proofs.Moving.{made, meant, refused-follows, moved-follows}
 use borrow.Author.Needs.{needs}
 use Rattle.steps.proofs.command.Statement.{statement}
 use Rattle.steps.proofs.command.Tie as tie
 use Rattle.commands.proofs.counting.counted.Reads as counted-reads
 use Rattle.commands.proofs.reading.read_at.Reads as read-at-reads
-use Rattle.steps.proofs.advance_here.Reads as advance-here-reads
-use Rattle.walks.proofs.fault_of.Reads as fault-of-reads
+use Rattle.advances.proofs.advance_here.Reads as advance-here-reads
+use Rattle.advances.proofs.fault_of.Reads as fault-of-reads
 
 abbrev asked : tie.Start → Request
 asked s = request (s .args .s .now) (s .args .p) (s .args .g) (length (s .args .ws .now)) (s .args .assumed-true) (s .args .assumed-false)

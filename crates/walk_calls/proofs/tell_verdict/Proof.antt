@@ -6,7 +6,7 @@ use Rattle.host_words.specs.Answers.{answerOf}
 use Rattle.walk_calls.proofs.tell_verdict.Statement.{statement}
 use Rattle.walk_calls.proofs.tell_verdict.Tie as tie
 use Rattle.host_words.proofs.write_answer.Reads as write-answer-reads
-use Rattle.steps.proofs.verdict.Reads as verdict-reads
+use Rattle.verdicts.proofs.verdict.Reads as verdict-reads
 
 returns : tie.Need-returns
 returns c = simp (lt-ltb _ _ (c .if1 .taken)) (refl, refl)

@@ -16,9 +16,10 @@ use Rattle.semantics.specs.AnswerSets.{byMasks}
 use Rattle.entries.specs.Carries.{Kept}
 use Rattle.leaves.proofs.Writing.{wide-two}
 use Rattle.workspace.specs.Workspace.{pairsOf}
-use Rattle.walks.specs.Walks.{Stands, Reaches}
+use Rattle.advances.specs.Advances.{Stands}
+use Rattle.advances.proofs.Advancing.{beside-as}
+use Rattle.walks.specs.Walks.{Reaches}
 use Rattle.walks.specs.declared.Reached.the-variants.{Through}
-use Rattle.walks.proofs.Advancing.{beside-as}
 use Rattle.walks.proofs.Going.{Going, going-start, not-fault, suits, meets, going-on, going-stops, standing-still, going-ends, ends-joined}
 use Rattle.walks.proofs.Stretching.{chain-up, going-ahead}
 use borrow.Author.Needs.{needs}

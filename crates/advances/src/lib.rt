@@ -1,0 +1,166 @@
+// A command on the tables of a workspace, with their counts.
+use entries::Carry;
+use expression::Command;
+use expression::limits::DEPTH_LIMIT;
+use expression::refusals::PLANS_FULL;
+use expression::refusals::SUBSETS_FULL;
+use leaves::Tables;
+ghost use mathlib.Core.Path.{_≡_};
+ghost use mathlib.Core.List.{List};
+ghost use Prim.Native.Nat.{ℕ, _+_, _-_, _*_, _≤_, _<_};
+ghost use lib.ListN.{length};
+ghost use Rattle.labels.specs.Labels.{labelCount};
+ghost use Rattle.expression.specs.Commands.{Suits};
+ghost use Rattle.expression.specs.Limits.{depthLimit};
+ghost use Rattle.semantics.specs.Expressions.{act};
+ghost use Rattle.semantics.specs.AnswerSets.{byMasks};
+ghost use Rattle.tables.specs.Algebras.{tables};
+ghost use Rattle.entries.specs.Carries.{Entry, Beside, Kept};
+ghost use Rattle.leaves.specs.Leaves.{tableAlgebra, Wide};
+ghost use Rattle.workspace.specs.Workspace.{faultOf};
+ghost use Rattle.operations.specs.Operations.{Meets};
+ghost use Rattle.advances.specs.Advances.{Stands, Advanced};
+ghost use Rattle.advances.specs.Bare.{SomeStand, Advances};
+
+// One area for each table, and scratch.
+pub const AREAS: usize = DEPTH_LIMIT as usize + 1;
+
+// 15 or 16, by the count that a command answers.
+pub fn fault_of(p: usize, r: usize) -> u64
+    requires { ⌜ (p < r) × (p ≤ 1024) ⌝ }
+    ensures { λ n. ⌜ n ≡ faultOf p r ⌝ }
+{
+    if p + 1 < r {
+        return SUBSETS_FULL;
+    }
+    PLANS_FULL
+}
+
+// The command on t tables in d areas, and their counts; a is the number of the next atom. The answer is as operations::act's.
+pub fn advance(
+    ws: &mut [u32],
+    row: &mut [u32],
+    index: &mut [u32],
+    made: &mut [u64],
+    vals: &mut [u64],
+    counts: &mut [u64],
+    kind: Tables,
+    carry: Carry,
+    d: usize,
+    w: usize,
+    p: usize,
+    t: usize,
+    c: Command,
+    a: u64,
+    assumed_true: u64,
+    assumed_false: u64,
+) -> usize
+    requires { ⌜ Wide kind w × (w ≤ 4096) × (1 ≤ p) × (p ≤ 1024) × (d ≤ depthLimit + 1) × (length (now row) ≡ w) × (p ≤ length (now index)) ⌝ }
+    requires { ⌜ Kept carry p 0 (now made) × Beside carry ((d - 1) * p) (now vals) × Suits labelCount c × Meets c d t a ⌝ }
+    requires { ⌜ ((ts : List (List Entry)) × (beyond : List ℕ) × Stands carry d w p ts beyond (now ws) (now vals) (now counts) × (length ts ≡ t)) ⌝ }
+    ensures { λ r. ⌜ ((ts : List (List Entry)) (beyond : List ℕ) → Stands carry d w p ts beyond (now (ws .entry)) (now (vals .entry)) (now (counts .entry)) → length ts ≡ t → Advanced carry d w p (act (tables (tableAlgebra kind carry) (byMasks «assumed_true» «assumed_false»)) a c ts) beyond r (now (ws .entry)) (now (counts .entry)) (now (ws .exit)) (now (vals .exit)) (now (counts .exit))) ⌝ }
+    ensures { λ r. ⌜ (r ≤ p → Kept carry p 0 (now (made .exit))) ⌝ }
+{
+    let n = stacks::count_below(&counts[..], t, 1);
+    let m = stacks::count_below(&counts[..], t, 2);
+    let r = operations::act(
+        ws,
+        row,
+        index,
+        made,
+        vals,
+        kind,
+        carry,
+        d,
+        w,
+        p,
+        t,
+        n,
+        m,
+        c,
+        a,
+        assumed_true,
+        assumed_false,
+    );
+    if r <= p {
+        stacks::tally(counts, c, t, r as u64);
+    }
+    r
+}
+
+// A command on t tables, whose counts follow, in arrays that are long enough. The answer is as advance's.
+fn advance_in(
+    ws: &mut [u32],
+    row: &mut [u32],
+    index: &mut [u32],
+    made: &mut [u64],
+    vals: &mut [u64],
+    counts: &mut [u64],
+    w: usize,
+    p: usize,
+    t: usize,
+    c: Command,
+    a: u64,
+    assumed_true: u64,
+    assumed_false: u64,
+) -> usize
+    requires { ⌜ (3 ≤ w) × (w ≤ 1026) × (1 ≤ p) × (p ≤ 1024) × (w ≤ length (now row)) × (p ≤ length (now index)) ⌝ }
+    requires { ⌜ Suits labelCount c × Meets c (depthLimit + 1) t a × SomeStand w p t (now ws) (now counts) ⌝ }
+    ensures { λ r. ⌜ Advances w p t c a (byMasks «assumed_true» «assumed_false») r (now (ws .entry)) (now (counts .entry)) (now (ws .exit)) (now (counts .exit)) ⌝ }
+{
+    advance(
+        ws,
+        &mut row[..w],
+        index,
+        &mut made[..0],
+        vals,
+        counts,
+        Tables::Pairs,
+        Carry::Nothing,
+        AREAS,
+        w,
+        p,
+        t,
+        c,
+        a,
+        assumed_true,
+        assumed_false,
+    )
+}
+
+// The same in arrays made here; tables that carry nothing take no words of values.
+pub fn advance_here(
+    ws: &mut [u32],
+    counts: &mut [u64],
+    w: usize,
+    p: usize,
+    t: usize,
+    c: Command,
+    a: u64,
+    assumed_true: u64,
+    assumed_false: u64,
+) -> usize
+    requires { ⌜ (3 ≤ w) × (w ≤ 1026) × (1 ≤ p) × (p ≤ 1024) ⌝ }
+    requires { ⌜ Suits labelCount c × Meets c (depthLimit + 1) t a × SomeStand w p t (now ws) (now counts) ⌝ }
+    ensures { λ r. ⌜ Advances w p t c a (byMasks «assumed_true» «assumed_false») r (now (ws .entry)) (now (counts .entry)) (now (ws .exit)) (now (counts .exit)) ⌝ }
+{
+    let mut row = [0u32; 1026];
+    let mut index = [0u32; 1024];
+    let mut made = [0u64; 1];
+    let mut vals = [0u64; 1];
+    advance_in(
+        ws,
+        &mut row,
+        &mut index,
+        &mut made,
+        &mut vals,
+        counts,
+        w,
+        p,
+        t,
+        c,
+        a,
+        assumed_true,
+        assumed_false,
+    )
+}

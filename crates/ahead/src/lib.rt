@@ -1,0 +1,92 @@
+// The commands ahead in an expression that may be done at once, done on the newest table of a workspace.
+use advances::AREAS;
+use entries::Carry;
+use expression::Command;
+use expression::Counts;
+use stretches::Stretch;
+ghost use mathlib.Core.Path.{_≡_};
+ghost use mathlib.Core.List.{List};
+ghost use Prim.Native.Nat.{ℕ, _+_, _*_, _≤_};
+ghost use lib.ListN.{length};
+ghost use Rattle.expression.specs.Limits.{depthLimit};
+ghost use Rattle.semantics.specs.Expressions.{changeNewest};
+ghost use Rattle.batches.specs.Batches.{batchLimit, commandsOf};
+ghost use Rattle.entries.specs.Carries.{Entry, Beside, Kept};
+ghost use Rattle.maps.specs.Maps.{batchedTable};
+ghost use Rattle.advances.specs.Advances.{Stands};
+ghost use Rattle.ahead.specs.Ahead.{Ahead};
+
+// The commands that the words of ops stand for, at once on the newest of t tables, and its count.
+fn map_ahead(
+    ws: &mut [u32],
+    row: &mut [u32],
+    index: &mut [u32],
+    made: &mut [u64],
+    vals: &mut [u64],
+    counts: &mut [u64],
+    carry: Carry,
+    w: usize,
+    p: usize,
+    t: usize,
+    ops: &[u32],
+)
+    requires { ⌜ (2 ≤ w) × (w ≤ 4096) × (p ≤ 1024) × (length (now row) ≡ w) × (p ≤ length (now index)) × (length (now ops) ≤ batchLimit) ⌝ }
+    requires { ⌜ Kept carry p 0 (now made) × Beside carry (depthLimit * p) (now vals) × (1 ≤ t) ⌝ }
+    requires { ⌜ ((ts : List (List Entry)) × (beyond : List ℕ) × Stands carry (depthLimit + 1) w p ts beyond (now ws) (now vals) (now counts) × (length ts ≡ t)) ⌝ }
+    ensures { λ _. ⌜ ((ts : List (List Entry)) (beyond : List ℕ) → Stands carry (depthLimit + 1) w p ts beyond (now (ws .entry)) (now (vals .entry)) (now (counts .entry)) → length ts ≡ t → Stands carry (depthLimit + 1) w p (changeNewest (batchedTable carry (commandsOf (now (ops .entry)))) ts) beyond (now (ws .exit)) (now (vals .exit)) (now (counts .exit))) ⌝ }
+    ensures { λ _. ⌜ Kept carry p 0 (now (made .exit)) ⌝ }
+{
+    let n = stacks::count_below(&counts[..], t, 1);
+    let r = operations::map_newest(ws, row, index, made, vals, carry, AREAS, w, p, t, n, ops);
+    stacks::tally(counts, Command::Relabel(0, 1), t, r as u64);
+}
+
+// The commands from `at` on that may be done at once, done: relabels, connects, rules with the union behind them. n are the counts before them.
+pub fn run_ahead(
+    s: &[u8],
+    stop: usize,
+    at: usize,
+    n: Counts,
+    ops: &mut [u32],
+    ws: &mut [u32],
+    row: &mut [u32],
+    index: &mut [u32],
+    made: &mut [u64],
+    vals: &mut [u64],
+    counts: &mut [u64],
+    carry: Carry,
+    w: usize,
+    p: usize,
+) -> Stretch
+    requires { ⌜ (2 ≤ w) × (w ≤ 4096) × (p ≤ 1024) × (length (now row) ≡ w) × (p ≤ length (now index)) × (length (now ops) ≤ batchLimit) ⌝ }
+    requires { ⌜ Kept carry p 0 (now made) × Beside carry (depthLimit * p) (now vals) ⌝ }
+    requires { ⌜ ((ts : List (List Entry)) × (beyond : List ℕ) × Stands carry (depthLimit + 1) w p ts beyond (now ws) (now vals) (now counts) × (length ts ≡ n .depth)) ⌝ }
+    ensures { λ r. ⌜ ((ts : List (List Entry)) (beyond : List ℕ) → Stands carry (depthLimit + 1) w p ts beyond (now (ws .entry)) (now (vals .entry)) (now (counts .entry)) → length ts ≡ n .depth → Ahead carry (depthLimit + 1) w p stop at n (now (s .entry)) ts beyond r (now (ws .exit)) (now (vals .exit)) (now (counts .exit))) ⌝ }
+    ensures { λ _. ⌜ Kept carry p 0 (now (made .exit)) ⌝ }
+{
+    if n.depth == 0 {
+        return Stretch {
+            next: at,
+            count: 0,
+            counts: n,
+        };
+    }
+    let r = stretches::read_stretch(s, stop, at, n, ops);
+    if r.count == 0 {
+        return r;
+    }
+    map_ahead(
+        ws,
+        row,
+        index,
+        made,
+        vals,
+        counts,
+        carry,
+        w,
+        p,
+        n.depth as usize,
+        &ops[..r.count],
+    );
+    r
+}

@@ -1,0 +1,4 @@
+pub mod Tests
+pub mod Reached
+pub mod Forming
+pub mod Lengths

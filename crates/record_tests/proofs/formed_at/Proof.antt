@@ -1,0 +1,98 @@
+-- `record_tests::formed_at`: the place, how many tables, and their form.
+use mathlib.Core.Path.{_≡_, sym, _∙_}
+use Prim.Native.Nat.{ℕ, _≤_}
+use native.Mathlib.Omega.{arith}
+use lib.ListN.{length}
+use borrow.Author.Tests.{not-true, not-false}
+use Rattle.labels.specs.Labels.{labelCount}
+use Rattle.expression.specs.declared.Located.the-variants.{Before}
+use Rattle.expression.specs.Checks.{Request}
+use Rattle.expression.specs.Limits.{depthLimit}
+use Rattle.expression.specs.Places.{locate}
+use Rattle.checks.specs.Requests.{request}
+use Rattle.checks.proofs.Passing.{accepted}
+use Rattle.record_tests.proofs.Tests.{unlocated, miscounted, malformed, well-formed}
+use Rattle.record_tests.proofs.Reached.{located-here}
+use Rattle.record_tests.proofs.Lengths.{eight}
+use borrow.Author.Needs.{needs}
+use Rattle.record_tests.proofs.formed_at.Statement.{statement}
+use Rattle.record_tests.proofs.formed_at.Tie as tie
+use Rattle.checks.proofs.locating.locate.Reads as locate-reads
+use Rattle.record_tests.proofs.are_found.Reads as are-found-reads
+
+abbrev asked : tie.Start → ℕ → ℕ → Request
+asked s i o = request (s .args .s .now) (s .args .p) (s .args .g) (length (s .args .ws .now)) i o
+
+-- the place is a command's start, or the end
+module _ (e : tie.After-r) where
+  abbrev origin : tie.Start
+  origin = e .before .before .before .before .before
+
+  located : locate labelCount (origin .args .s .now) (origin .args .t1 .place) ≡ Before (e .r .given .0 .0)
+  located = sym (e .before .before .locate .ensures) ∙ e .r .given .1
+
+  shallow : e .r .given .0 .0 .depth ≤ depthLimit
+  shallow =
+      let s = origin in
+      let A = accepted (asked s (s .pre .0) (s .pre .1)) (s .pre .3) in
+      located-here labelCount (s .args .s .now) (s .pre .2) (s .args .t1 .place) (e .r .given .0 .0) (A .joined) located .1 .1 .depth
+
+locate-requires : tie.Need-locate-requires
+locate-requires c κs = search needs
+
+enum-known-r : tie.Need-enum-known-r
+enum-known-r c = search needs
+
+enum-told : tie.Need-enum-told
+enum-told c = search needs
+
+returns : tie.Need-returns
+returns c =
+    let s = c .before .before .before .before .before in
+    λ i o. sym (unlocated labelCount (asked s i o) (s .args .t1) (s .args .ws .now) (sym (c .before .before .locate .ensures) ∙ c .enum-told .given .1))
+
+returns-2 : tie.Need-returns-2
+returns-2 c =
+    let e = c .before .before .before in
+    let s = origin e in
+    λ i o. sym (miscounted labelCount (asked s i o) (s .args .t1) (s .args .ws .now) (located e) (c .if1 .taken))
+
+add-are-found : tie.Need-add-are-found
+add-are-found c = let s = c .before .before .before .before .before .before .before .before .before .before .before in omega (arith, accepted (asked s (s .pre .0) (s .pre .1)) (s .pre .3) .subsets .1)
+
+are-found-requires : tie.Need-are-found-requires
+are-found-requires c κs =
+    let e = c .before .before .before .before .before .before in
+    let s = origin e in
+    let A = accepted (asked s (s .pre .0) (s .pre .1)) (s .pre .3) in
+    let k = eight (s .args .t1) _ (s .good .0) in
+    let t = c .before .before .before .if1 .left in
+    (omega arith, omega (arith, A .subsets .1), A .pairs .1, omega (arith, k, t, shallow e), omega (arith, t, shallow e), A .room)
+
+returns-3 : tie.Need-returns-3
+returns-3 c =
+    let v = c .before in
+    let e = v .before .before .before .before .before .before .before in
+    let s = origin e in
+    λ i o. sym (malformed labelCount (asked s i o) (s .args .t1) (s .args .ws .now) (located e) (v .before .before .before .before .if1 .left) (v .are-found .result) (v .are-found .ensures) (not-true (v .are-found .result) (c .if2 .taken)))
+
+returns-4 : tie.Need-returns-4
+returns-4 c =
+    let v = c .before in
+    let e = v .before .before .before .before .before .before .before in
+    let s = origin e in
+    λ i o. sym (well-formed labelCount (asked s i o) (s .args .t1) (s .args .ws .now) (located e) (v .before .before .before .before .if1 .left) (v .are-found .result) (v .are-found .ensures) (not-false (v .are-found .result) (c .if2 .left)))
+
+pub formed-at-spec : {M : Type 1} → statement M
+formed-at-spec =
+    tie.close
+    (tie.spec
+    locate-requires
+    enum-known-r
+    enum-told
+    returns
+    returns-2
+    add-are-found
+    are-found-requires
+    returns-3
+    returns-4)
