@@ -5,7 +5,7 @@ use Prim.Native.Nat.{ℕ, _-_, _≤_, _<_}
 use native.Mathlib.Omega.{arith}
 use lib.ListN.{length, getD, length-set, length-map}
 use Rattle.labels.specs.Labels.{labelCount}
-use Rattle.rows.proofs.Mix.{mix, mix-more, mix-get-high, mix-all}
+use Rattle.words.proofs.Mix.{mix, mix-more, mix-get-high, mix-all}
 use Rattle.batches.specs.Batches.{judgeTriple}
 use Rattle.batches.proofs.Steps.{map-read}
 use Rattle.batches.proofs.judge_words.Statement.{statement}
