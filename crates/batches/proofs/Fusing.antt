@@ -4,8 +4,8 @@ use mathlib.Core.List.{List, [], _∷_, _++_, map}
 use Prim.Native.Nat.{ℕ, suc, _+_, _-_, _≤_, _<_}
 use native.Mathlib.Numerals.{add-one}
 use native.Mathlib.Omega.{arith}
-use lib.ListN.{length, take, drop, set, getD, drop-of-length-le}
-use lib.Seq.{drop-cons, take-suc, take-suc-set}
+use lib.ListN.{length, take, drop, set, getD, drop-of-length-le, length-set}
+use lib.Seq.{drop-cons, take-suc, take-suc-set, getD-set-other}
 use Rattle.labels.specs.Labels.{labelCount}
 use Rattle.expression.specs.declared.Command.{Command}
 use Rattle.tables.specs.Definitions.{ownTriple, subsets}
@@ -73,6 +73,44 @@ module _ (code : List ℕ) (m s : ℕ) (c : Command) (x : List ℕ) where
       ∙ ap (λ (t : List ℕ). wordSteps labelCount t x) (take-suc-set code m s l)
       ∙ more-words (take m code) s x
       ∙ as-command s c e (wordSteps labelCount (take m code) x)
+
+-- in place of the last word but one
+module _ (code : List ℕ) (m s : ℕ) (x : List ℕ) (l : 2 ≤ m) (k : m ≤ length code) where
+  abbrev first : ℕ
+  first = getD code (m - 2) 0
+
+  abbrev last : ℕ
+  last = getD code (m - 1) 0
+
+  two-words : (c : List ℕ) (t : ℕ) → length c ≡ length code → take (suc (m - 2)) c ≡ take (m - 2) code ++ (t ∷ []) → getD c (m - 1) 0 ≡ last
+      → wordSteps labelCount (take m c) x ≡ wordStep labelCount last (wordStep labelCount t (wordSteps labelCount (take (m - 2) code) x))
+  two-words c t n e f =
+      let a : m ≡ suc (m - 1) = omega arith in
+      let b : m - 1 ≡ suc (m - 2) = omega arith in
+      let i : m - 1 < length c = omega (arith, n) in
+      ap (λ (j : ℕ). wordSteps labelCount (take j c) x) a
+      ∙ ap (λ (y : List ℕ). wordSteps labelCount y x) (take-suc c (m - 1) 0 i)
+      ∙ more-words (take (m - 1) c) (getD c (m - 1) 0) x
+      ∙ ap₂ (λ (v : ℕ) (y : List ℕ). wordStep labelCount v (wordSteps labelCount y x)) f (ap (λ (j : ℕ). take j c) b ∙ e)
+      ∙ ap (wordStep labelCount last) (more-words (take (m - 2) code) t x)
+
+  twice-same : ((q r : ℕ) → wordTriple labelCount last (wordTriple labelCount s q q) (wordTriple labelCount s q r) ≡ wordTriple labelCount last (wordTriple labelCount first q q) (wordTriple labelCount first q r))
+      → (y : List ℕ) → wordStep labelCount last (wordStep labelCount s y) ≡ wordStep labelCount last (wordStep labelCount first y)
+  unfolding wordStep
+  twice-same e y = ap₂ {C = List ℕ} (λ u v. u ∷ v) (e (ownTriple y) (ownTriple y)) (each (subsets y))
+    where
+      each : (t : List ℕ) → map (wordTriple labelCount last (wordTriple labelCount s (ownTriple y) (ownTriple y))) (map (wordTriple labelCount s (ownTriple y)) t)
+          ≡ map (wordTriple labelCount last (wordTriple labelCount first (ownTriple y) (ownTriple y))) (map (wordTriple labelCount first (ownTriple y)) t)
+      each [] = refl
+      each (z ∷ t) = ap₂ {C = List ℕ} (λ u v. u ∷ v) (e (ownTriple y) z) (each t)
+
+  pub put-first : ((q r : ℕ) → wordTriple labelCount last (wordTriple labelCount s q q) (wordTriple labelCount s q r) ≡ wordTriple labelCount last (wordTriple labelCount first q q) (wordTriple labelCount first q r))
+      → wordSteps labelCount (take m (set code (m - 2) s)) x ≡ wordSteps labelCount (take m code) x
+  put-first e =
+      let i : m - 2 < length code = omega arith in
+      two-words (set code (m - 2) s) s (length-set code (m - 2) s) (take-suc-set code (m - 2) s i) (getD-set-other code (m - 2) (m - 1) s 0 (λ z. omega arith))
+      ∙ twice-same e (wordSteps labelCount (take (m - 2) code) x)
+      ∙ sym (two-words code first refl (take-suc code (m - 2) 0 i) refl)
 
 -- ---- the commands left
 

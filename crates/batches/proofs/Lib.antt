@@ -1,5 +1,6 @@
 pub mod Steps
 pub mod Judging
+pub mod Leaving
 pub mod Words
 pub mod Fusing
 pub mod Gathering

@@ -1,6 +1,6 @@
 -- The words of rules judged at once, and what words make of triples one after the other. Assumes nothing.
 use mathlib.Core.Path.{_≡_, refl, sym, ap, ap₂, _∙_}
-use mathlib.Core.Bool.{Bool, true, false, cond, not, _||_, or-true, or-false}
+use mathlib.Core.Bool.{Bool, true, false, cond, not, _||_, or-true, or-false, true≢false}
 use mathlib.Core.List.{List, [], _∷_, _++_, map}
 use Prim.Native.Nat.{ℕ, _+_, _-_, _*_, _/_, _%_, _^_, _≤_, _<_}
 use native.Mathlib.Nat.{one-mul}
@@ -8,7 +8,7 @@ use native.Mathlib.Omega.{arith}
 use lib.Bits.{bitAnd, bitOr, or-lt, and-zero-r}
 use lib.Pow.{shl-exact, pow-lt}
 use lib.Dec.{eqb, ltb}
-use borrow.Author.Tests.{lt-ltb, le-ltb}
+use borrow.Author.Tests.{eq-eqb, ne-eqb, lt-ltb, le-ltb}
 use lib.ListN.{length, take, drop, set, getD}
 use Rattle.labels.specs.Labels.{labelCount}
 use Rattle.labels.specs.Sets.{has, without}
@@ -21,7 +21,7 @@ use Rattle.expression.specs.Commands.{Suits}
 use Rattle.tables.specs.Triples.{markU, settles, relabelTriple, connectTriple}
 use Rattle.candidates.specs.Candidates.{mapTriple}
 use Rattle.batches.specs.declared.Judge.{Judge}
-use Rattle.batches.specs.Batches.{commandOf, stepTriple, step, isMet, Fits, judgesFrom, judgeOf, judgeTriple, wordTriple, wordStep, wordSteps}
+use Rattle.batches.specs.Batches.{commandOf, stepTriple, step, isMet, Fits, judgesFrom, settled, judgeOf, judgeTriple, wordTriple, wordStep, wordSteps}
 use Rattle.batches.proofs.Steps.{is-negative, rule-word}
 use Rattle.batches.proofs.Judging.{with-has, meets-more, connect-more, relabel-more, no-atoms}
 
@@ -36,11 +36,12 @@ pub mark-within : (g r : ℕ) → 2 ^ (2 * labelCount + g) ≤ bitOr r (2 ^ (2 *
 mark-within g r = has-le (2 * labelCount + g) (bitOr r (2 ^ (2 * labelCount + g))) (with-has (2 * labelCount + g) r)
 
 -- a rule's word, read again
-pub word-fits : (m n g h w : ℕ) → Fits labelCount (record { marks = m; negative = n; label = g; after = h }) → w ≡ ((labelCount + h) * labelCount + g) * 2 ^ (3 * labelCount) + n * 2 ^ (2 * labelCount) + m
-    → judgeOf labelCount w ≡ record { marks = m; negative = n; label = g; after = h }
+pub word-fits : (m n g h l w : ℕ) → Fits labelCount (record { marks = m; negative = n; label = g; after = h; leaves = l })
+    → w ≡ ((labelCount + l * labelCount + h) * labelCount + g) * 2 ^ (3 * labelCount) + n * 2 ^ (2 * labelCount) + m
+    → judgeOf labelCount w ≡ record { marks = m; negative = n; label = g; after = h; leaves = l }
 unfolding judgeOf
-word-fits m n g h w f e =
-    let x : ℕ = (labelCount + h) * labelCount + g in
+word-fits m n g h l w f e =
+    let x : ℕ = (labelCount + l * labelCount + h) * labelCount + g in
     let y : ℕ = x * 2 ^ labelCount + n in
     let t : w / 2 ^ (2 * labelCount) ≡ y = omega (arith, f .0, e) in
     let u : y / 2 ^ labelCount ≡ x = omega (arith, f .1) in
@@ -48,8 +49,10 @@ word-fits m n g h w f e =
     let a : w % 2 ^ (2 * labelCount) ≡ m = omega (arith, f .0, e) in
     let b : y % 2 ^ labelCount ≡ n = omega (arith, f .1) in
     let c : x % labelCount ≡ g = omega (arith, f .2) in
-    let z : x / labelCount ≡ labelCount + h = omega (arith, f .2) in
-    let d : (labelCount + h) % labelCount ≡ h = omega (arith, f .3) in rw (a, v, t, b, c, z, d)
+    let z : x / labelCount ≡ labelCount + l * labelCount + h = omega (arith, f .2) in
+    let d : (labelCount + l * labelCount + h) % labelCount ≡ h = omega (arith, f .3) in
+    let k : (labelCount + l * labelCount + h) / labelCount ≡ 1 + l = omega (arith, f .3) in
+    let i : w / (2 * judgesFrom labelCount) ≡ l = omega (arith, v, z, k, f .4) in rw (a, i, v, t, b, c, z, d)
 
 -- what a word makes of a triple, by its size
 module _ (w q r : ℕ) where
@@ -81,14 +84,23 @@ module _ (w q : ℕ) (l : List ℕ) where
 
 -- ---- a rule, by its tests
 
-module _ (K : ℕ) (j : Judge) (q r : ℕ) (b : Bool) (e : b ≡ isMet j q r) (y z : ℕ) (f : z ≡ mapTriple K (Relabel (j .label) (j .after)) q y) where
-  pub met-rule : b ≡ true → y ≡ without (2 * K + j .label) r → z ≡ judgeTriple K j q r
-  unfolding mapTriple judgeTriple
-  met-rule t g = f ∙ ap (relabelTriple K (j .label) (j .after)) (g ∙ ap (λ (d : Bool). cond d (without (2 * K + j .label) r) (bitOr r (markU K (j .label)))) (sym t ∙ e))
+module _ (K g h q r : ℕ) (b : Bool) (y z : ℕ) (f : z ≡ mapTriple K (Relabel g h) q y) where
+  pub met-rule : b ≡ true → y ≡ without (2 * K + g) r → z ≡ settled K g h b r
+  unfolding mapTriple settled
+  met-rule t e = f ∙ ap (relabelTriple K g h) (e ∙ ap (λ (d : Bool). cond d (without (2 * K + g) r) (bitOr r (markU K g))) (sym t))
 
-  pub unmet-rule : b ≡ false → y ≡ bitOr r (markU K (j .label)) → z ≡ judgeTriple K j q r
-  unfolding mapTriple judgeTriple
-  unmet-rule t g = f ∙ ap (relabelTriple K (j .label) (j .after)) (g ∙ ap (λ (d : Bool). cond d (without (2 * K + j .label) r) (bitOr r (markU K (j .label)))) (sym t ∙ e))
+  pub unmet-rule : b ≡ false → y ≡ bitOr r (markU K g) → z ≡ settled K g h b r
+  unfolding mapTriple settled
+  unmet-rule t e = f ∙ ap (relabelTriple K g h) (e ∙ ap (λ (d : Bool). cond d (without (2 * K + g) r) (bitOr r (markU K g))) (sym t))
+
+module _ (K : ℕ) (j : Judge) (q r : ℕ) (b : Bool) (e : b ≡ isMet j q r) where
+  pub label-settled : (z : ℕ) → j .leaves ≡ 0 → z ≡ settled K (j .label) (j .after) b r → z ≡ judgeTriple K j q r
+  unfolding judgeTriple
+  label-settled z l f = f ∙ ap (λ (d : Bool). settled K (j .label) (j .after) d r) e ∙ rw (eq-eqb (j .leaves) 0 l)
+
+  pub label-left : (z : ℕ) → (j .leaves ≡ 0 → ⊥) → z ≡ cond b r (bitOr r (markU K (j .after))) → z ≡ judgeTriple K j q r
+  unfolding judgeTriple
+  label-left z l f = f ∙ ap (λ (d : Bool). cond d r (bitOr r (markU K (j .after)))) e ∙ rw (ne-eqb (j .leaves) 0 l)
 
 pub suits-relabel : (K i j : ℕ) → i < K → j < K → Suits K (Relabel i j)
 unfolding Suits
@@ -107,17 +119,17 @@ or-last false false c = or-false c
 
 module _ (j : Judge) (k : Kind) (i q r : ℕ) where
   pub head-in : i < labelCount → k ≡ Head
-      → isMet (record { marks = bitOr (j .marks) ((1 * 2 ^ i) % 2 ^ 32); negative = j .negative; label = j .label; after = j .after }) q r ≡ (isMet j q r || settles labelCount k i q r)
+      → isMet (record { marks = bitOr (j .marks) ((1 * 2 ^ i) % 2 ^ 32); negative = j .negative; label = j .label; after = j .after; leaves = j .leaves }) q r ≡ (isMet j q r || settles labelCount k i q r)
   unfolding isMet settles
   head-in l e = rw (e, mark-is i (omega arith), meets-more r (j .marks) i) (or-back (not (eqb (bitAnd q (j .negative)) 0)) (not (eqb (bitAnd r (j .marks)) 0)) (has i r))
 
   pub positive-in : i < labelCount → k ≡ Positive
-      → isMet (record { marks = bitOr (j .marks) ((1 * 2 ^ (labelCount + i)) % 2 ^ 32); negative = j .negative; label = j .label; after = j .after }) q r ≡ (isMet j q r || settles labelCount k i q r)
+      → isMet (record { marks = bitOr (j .marks) ((1 * 2 ^ (labelCount + i)) % 2 ^ 32); negative = j .negative; label = j .label; after = j .after; leaves = j .leaves }) q r ≡ (isMet j q r || settles labelCount k i q r)
   unfolding isMet settles
   positive-in l e = rw (e, mark-is (labelCount + i) (omega arith), meets-more r (j .marks) (labelCount + i)) (or-back (not (eqb (bitAnd q (j .negative)) 0)) (not (eqb (bitAnd r (j .marks)) 0)) (has (labelCount + i) r))
 
   pub negative-in : i < labelCount → k ≡ Negative
-      → isMet (record { marks = j .marks; negative = bitOr (j .negative) ((1 * 2 ^ i) % 2 ^ 32); label = j .label; after = j .after }) q r ≡ (isMet j q r || settles labelCount k i q r)
+      → isMet (record { marks = j .marks; negative = bitOr (j .negative) ((1 * 2 ^ i) % 2 ^ 32); label = j .label; after = j .after; leaves = j .leaves }) q r ≡ (isMet j q r || settles labelCount k i q r)
   unfolding isMet settles
   negative-in l e = rw (e, mark-is i (omega arith), meets-more q (j .negative) i) (or-last (not (eqb (bitAnd q (j .negative)) 0)) (not (eqb (bitAnd r (j .marks)) 0)) (has i q))
 
@@ -130,13 +142,13 @@ module _ (w : ℕ) (j : Judge) (lw : judgesFrom labelCount ≤ w) (ej : j ≡ ju
   then : (q r : ℕ) → wordTriple labelCount s q r ≡ judgeTriple labelCount x q r
   then q r = by-judge s q r ls ∙ ap (λ (y : Judge). judgeTriple labelCount y q r) ex
 
-  module _ (g : ℕ) (el : j .label ≡ g) (ea : j .after ≡ g) (c : Command) (q r : ℕ) where
+  module _ (g : ℕ) (el : j .label ≡ g) (ea : j .after ≡ g) (ez : j .leaves ≡ 0) (xz : x .leaves ≡ 0) (c : Command) (q r : ℕ) where
     pub connect-fused : (k : Kind) (i : ℕ) → c ≡ Connect k i g → i < labelCount → x .label ≡ g → x .after ≡ g → isMet x q r ≡ (isMet j q r || settles labelCount k i q r)
         → wordTriple labelCount s q r ≡ stepTriple labelCount c (wordTriple labelCount w q q) (wordTriple labelCount w q r)
     unfolding stepTriple
     connect-fused k i ec l xl xa m =
         then q r
-        ∙ connect-more labelCount j x g el ea q r k i l xl xa m
+        ∙ connect-more labelCount j x g el ea ez xz q r k i l xl xa m
         ∙ ap₂ (connectTriple labelCount k i g) (before q q) (before q r)
         ∙ ap (λ (d : Command). stepTriple labelCount d (wordTriple labelCount w q q) (wordTriple labelCount w q r)) (sym ec)
 
@@ -145,24 +157,43 @@ module _ (w : ℕ) (j : Judge) (lw : judgesFrom labelCount ≤ w) (ej : j ≡ ju
     unfolding stepTriple
     relabel-fused h ec xl xa m =
         then q r
-        ∙ relabel-more labelCount j x g el ea q r h xl xa m
+        ∙ relabel-more labelCount j x g el ea ez xz q r h xl xa m
         ∙ ap (relabelTriple labelCount g h) (before q r)
         ∙ ap (λ (d : Command). stepTriple labelCount d (wordTriple labelCount w q q) (wordTriple labelCount w q r)) (sym ec)
 
+-- a rule's word in front of another's
+module _ (v w s : ℕ) (lv : judgesFrom labelCount ≤ v) (lw : judgesFrom labelCount ≤ w) (ls : judgesFrom labelCount ≤ s) (i j x : Judge) (ei : i ≡ judgeOf labelCount v) (ej : j ≡ judgeOf labelCount w) (ex : judgeOf labelCount s ≡ x) where
+  pub both-judged : (q r : ℕ) → judgeTriple labelCount j (judgeTriple labelCount x q q) (judgeTriple labelCount x q r) ≡ judgeTriple labelCount j (judgeTriple labelCount i q q) (judgeTriple labelCount i q r)
+      → wordTriple labelCount w (wordTriple labelCount s q q) (wordTriple labelCount s q r) ≡ wordTriple labelCount w (wordTriple labelCount v q q) (wordTriple labelCount v q r)
+  both-judged q r e =
+      ap₂ (wordTriple labelCount w) (reads s ls x (sym ex) q q) (reads s ls x (sym ex) q r)
+      ∙ reads w lw j ej (judgeTriple labelCount x q q) (judgeTriple labelCount x q r)
+      ∙ e
+      ∙ sym (reads w lw j ej (judgeTriple labelCount i q q) (judgeTriple labelCount i q r))
+      ∙ ap₂ (wordTriple labelCount w) (sym (reads v lv i ei q q)) (sym (reads v lv i ei q r))
+    where
+      reads : (t : ℕ) → judgesFrom labelCount ≤ t → (k : Judge) → k ≡ judgeOf labelCount t → (q r : ℕ) → wordTriple labelCount t q r ≡ judgeTriple labelCount k q r
+      reads t l k ek q r = by-judge t q r l ∙ ap (λ (y : Judge). judgeTriple labelCount y q r) (sym ek)
+
+pub three-false : (a b c : Bool) → (a || (b || c)) ≡ false → (a ≡ false) × (b ≡ false) × (c ≡ false)
+three-false true b c e = absurd (true≢false e)
+three-false false true c e = absurd (true≢false e)
+three-false false false c e = (refl, refl, e)
+
 -- ---- a word for one command
 
-no-marks : (g q r : ℕ) → isMet (record { marks = 0; negative = 0; label = g; after = g }) q r ≡ false
+no-marks : (g q r : ℕ) → isMet (record { marks = 0; negative = 0; label = g; after = g; leaves = 0 }) q r ≡ false
 unfolding isMet
 no-marks g q r = rw (and-zero-r q, and-zero-r r)
 
 -- a rule
-pub rule-alone : (w s : ℕ) → w < labelCount → judgesFrom labelCount ≤ s → judgeOf labelCount s ≡ record { marks = 0; negative = 0; label = w; after = w }
+pub rule-alone : (w s : ℕ) → w < labelCount → judgesFrom labelCount ≤ s → judgeOf labelCount s ≡ record { marks = 0; negative = 0; label = w; after = w; leaves = 0 }
     → (q r : ℕ) → wordTriple labelCount s q r ≡ stepTriple labelCount (commandOf labelCount w) q r
 unfolding stepTriple
 rule-alone w s l ls ex q r =
     by-judge s q r ls
     ∙ ap (λ (y : Judge). judgeTriple labelCount y q r) ex
-    ∙ no-atoms labelCount (record { marks = 0; negative = 0; label = w; after = w }) w q r refl refl (no-marks w q r)
+    ∙ no-atoms labelCount (record { marks = 0; negative = 0; label = w; after = w; leaves = 0 }) w q r refl refl refl (no-marks w q r)
     ∙ ap (λ (d : Command). stepTriple labelCount d q r) (sym (rule-word w l))
 
 -- a word that is too large for a command's stands for a connect

@@ -10,12 +10,12 @@ ghost use lib.Bits.{bitOr};
 ghost use lib.ListN.{length, take, getD};
 ghost use Rattle.lists.specs.Sorted.{setOf};
 ghost use Rattle.labels.specs.Labels.{labelCount};
-ghost use Rattle.labels.specs.Sets.{without};
+ghost use Rattle.labels.specs.Sets.{has, without};
 ghost use Rattle.expression.specs.declared.Command.the-variants.{Connect};
 ghost use Rattle.expression.specs.Commands.{Suits};
 ghost use Rattle.tables.specs.Triples.{markU, settles};
 ghost use Rattle.candidates.specs.Candidates.{pairOf, Readable};
-ghost use Rattle.batches.specs.Batches.{Joins, commandOf, commandsOf, stepTriple, step, steps, isMet, Fits, judgesFrom, judgeOf, judgeTriple, wordTriple, wordSteps, wordsPair};
+ghost use Rattle.batches.specs.Batches.{Joins, commandOf, commandsOf, stepTriple, step, steps, isMet, Fits, judgesFrom, settled, judgeOf, judgeTriple, wordTriple, wordSteps, wordsPair};
 
 // labels::LABELS at the width of a word.
 const LABELS: u32 = labels::LABELS as u32;
@@ -31,13 +31,17 @@ const RULES: u32 = 1 << (3 * LABELS);
 // The first such word.
 const JUDGES: u32 = LABELS * LABELS * RULES;
 
+// The first one of a rule that leaves what has its label.
+const LEAVING: u32 = 2 * JUDGES;
+
 // A rule with atoms put into it, judged at once: the marks of a triple that meet it, the labels of negative atoms, which meet it by the interpretation's
-// own T; its label, and the one it is given then.
+// own T; its label, and the one it is given then. Where `leaves` is 1 what has its label is left to a later word.
 pub struct Judge {
     pub marks: u32,
     pub negative: u32,
     pub label: u32,
     pub after: u32,
+    pub leaves: u32,
 }
 
 // What commands leave of a row: its own triple, and how many subsets there are.
@@ -139,6 +143,7 @@ fn judge_of(w: u32) -> Judge
         negative: w / NEGATIVES % (1 << LABELS),
         label: w / RULES % LABELS,
         after: w / RULES / LABELS % LABELS,
+        leaves: w / LEAVING,
     }
 }
 
@@ -147,7 +152,9 @@ fn judge_word(j: Judge) -> u32
     requires { ⌜ Fits labelCount j ⌝ }
     ensures { λ w. ⌜ (judgesFrom labelCount ≤ w) × (judgeOf labelCount w ≡ j) ⌝ }
 {
-    ((LABELS + j.after) * LABELS + j.label) * RULES + j.negative * NEGATIVES + j.marks
+    ((LABELS + j.leaves * LABELS + j.after) * LABELS + j.label) * RULES
+        + j.negative * NEGATIVES
+        + j.marks
 }
 
 // Whether the rule is met. Negative atoms count by the interpretation's own triple q, for the subsets too.
@@ -169,16 +176,31 @@ fn without_rule(g: u32, r: u32) -> u32
     (r | m) - m
 }
 
+// Its label is out of U if it is met, else in U, and is relabelled then.
+fn settled(j: Judge, q: u32, r: u32, met: bool) -> u32
+    requires { ⌜ Fits labelCount j ⌝ }
+    ensures { λ s. ⌜ s ≡ settled labelCount (j .label) (j .after) met r ⌝ }
+{
+    let c = Command::Relabel(j.label, j.after);
+    if met {
+        return candidates::map_triple(c, q, without_rule(j.label, r));
+    }
+    candidates::map_triple(c, q, with_rule(j.label, r))
+}
+
 // What the rule makes of a triple r, where q is the interpretation's own.
 fn judge_triple(j: Judge, q: u32, r: u32) -> u32
     requires { ⌜ Fits labelCount j ⌝ }
     ensures { λ s. ⌜ s ≡ judgeTriple labelCount j q r ⌝ }
 {
-    let c = Command::Relabel(j.label, j.after);
-    if is_met(j, q, r) {
-        return candidates::map_triple(c, q, without_rule(j.label, r));
+    let met = is_met(j, q, r);
+    if j.leaves == 0 {
+        return settled(j, q, r, met);
     }
-    candidates::map_triple(c, q, with_rule(j.label, r))
+    if met {
+        return r;
+    }
+    with_rule(j.after, r)
 }
 
 // Each triple as the rule makes it.
@@ -275,7 +297,7 @@ pub fn batch_row(row: &mut [u32], src: &[u32], code: &[u32]) -> usize
 // The rule with atoms of label i put into it.
 fn with_atoms(j: Judge, k: Kind, i: u32) -> Judge
     requires { ⌜ Fits labelCount j × (i < labelCount) ⌝ }
-    ensures { λ x. ⌜ Fits labelCount x × (x .label ≡ j .label) × (x .after ≡ j .after) × ((q r : ℕ) → isMet x q r ≡ (isMet j q r || settles labelCount k i q r)) ⌝ }
+    ensures { λ x. ⌜ Fits labelCount x × (x .label ≡ j .label) × (x .after ≡ j .after) × (x .leaves ≡ j .leaves) × ((q r : ℕ) → isMet x q r ≡ (isMet j q r || settles labelCount k i q r)) ⌝ }
 {
     match k {
         Kind::Head => Judge {
@@ -283,18 +305,21 @@ fn with_atoms(j: Judge, k: Kind, i: u32) -> Judge
             negative: j.negative,
             label: j.label,
             after: j.after,
+            leaves: j.leaves,
         },
         Kind::Positive => Judge {
             marks: j.marks | (1 << (LABELS + i)),
             negative: j.negative,
             label: j.label,
             after: j.after,
+            leaves: j.leaves,
         },
         Kind::Negative => Judge {
             marks: j.marks,
             negative: j.negative | (1 << i),
             label: j.label,
             after: j.after,
+            leaves: j.leaves,
         },
     }
 }
@@ -309,6 +334,9 @@ fn joined(w: u32, c: Command) -> u32
     }
     let j = judge_of(w);
     if j.label != j.after {
+        return 0;
+    }
+    if j.leaves != 0 {
         return 0;
     }
     match c {
@@ -327,6 +355,7 @@ fn joined(w: u32, c: Command) -> u32
                 negative: j.negative,
                 label: g,
                 after: h,
+                leaves: 0,
             })
         }
         Command::Rule(_) => 0,
@@ -345,6 +374,7 @@ fn alone(w: u32) -> u32
             negative: 0,
             label: w,
             after: w,
+            leaves: 0,
         });
     }
     if w < JUDGES {
@@ -369,6 +399,73 @@ fn put_word(code: &mut [u32], m: usize, w: u32) -> usize
     m + 1
 }
 
+// Whether a rule has atoms of label g.
+fn speaks_of(j: Judge, g: u32) -> bool
+    requires { ⌜ g < labelCount ⌝ }
+    ensures { λ b. ⌜ b ≡ (has g (j .marks) || (has (labelCount + g) (j .marks) || has g (j .negative))) ⌝ }
+{
+    if (j.marks >> g) % 2 == 1 {
+        return true;
+    }
+    if (j.marks >> (LABELS + g)) % 2 == 1 {
+        return true;
+    }
+    (j.negative >> g) % 2 == 1
+}
+
+// The word for a in front of b, both words of rules, by which what has the rule's label is left to b; if b is relabelled like a and has no atoms of
+// these labels. Else 0.
+fn lighter(a: u32, b: u32) -> u32
+    ensures { λ s. ⌜ (0 < s → (q r : ℕ) → wordTriple labelCount b (wordTriple labelCount s q q) (wordTriple labelCount s q r) ≡ wordTriple labelCount b (wordTriple labelCount a q q) (wordTriple labelCount a q r)) ⌝ }
+{
+    if a < JUDGES {
+        return 0;
+    }
+    if b < JUDGES {
+        return 0;
+    }
+    let i = judge_of(a);
+    let j = judge_of(b);
+    if i.leaves + j.leaves != 0 {
+        return 0;
+    }
+    if i.label != j.label {
+        return 0;
+    }
+    if i.after != j.after {
+        return 0;
+    }
+    if j.label == j.after {
+        return 0;
+    }
+    if speaks_of(j, j.label) {
+        return 0;
+    }
+    if speaks_of(j, j.after) {
+        return 0;
+    }
+    judge_word(Judge {
+        marks: i.marks,
+        negative: i.negative,
+        label: i.label,
+        after: i.after,
+        leaves: 1,
+    })
+}
+
+// The last but one of m words, lighter where it can be.
+fn lighten(code: &mut [u32], m: usize)
+    requires { ⌜ m ≤ length (now code) ⌝ }
+    ensures { λ _. ⌜ ((x : List ℕ) → wordSteps labelCount (take m (now (code .exit))) x ≡ wordSteps labelCount (take m (now (code .entry))) x) ⌝ }
+{
+    if 2 <= m {
+        let s = lighter(code[m - 2], code[m - 1]);
+        if 0 < s {
+            code[m - 2] = s;
+        }
+    }
+}
+
 // Words for the commands of ops, no more than they are. The answer is how many.
 pub fn fuse(code: &mut [u32], ops: &[u32]) -> usize
     requires { ⌜ length (now ops) ≤ length (now code) ⌝ }
@@ -378,6 +475,7 @@ pub fn fuse(code: &mut [u32], ops: &[u32]) -> usize
     let mut k = 0;
     while k < ops.len() {
         m = put_word(code, m, ops[k]);
+        lighten(code, m);
         k += 1;
     }
     m
