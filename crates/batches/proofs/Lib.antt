@@ -1,6 +1,3 @@
 pub mod Steps
-pub mod Judging
-pub mod Leaving
 pub mod Words
-pub mod Fusing
 pub mod Gathering

@@ -1,5 +1,4 @@
 -- `batches::judge_triple`: one test after the other.
-use mathlib.Core.Path.{refl}
 use Rattle.labels.specs.Labels.{labelCount}
 use Rattle.batches.proofs.Words.{label-settled, label-left}
 use borrow.Author.Needs.{needs}

@@ -1,6 +1,6 @@
 -- A rule may leave what has its label to a rule behind it that is relabelled alike, and has no atoms of these labels. Assumes nothing.
 use mathlib.Core.Path.{_≡_, refl, sym, ap, ap₂, _∙_}
-use mathlib.Core.Bool.{Bool, true, false, cond, not, _&&_, _||_, true≢false, and-false, and-true, or-true, or-false}
+use mathlib.Core.Bool.{Bool, true, false, cond, not, _&&_, _||_, true≢false, and-false, and-true, or-true}
 use Prim.Native.Nat.{ℕ, _+_, _*_, _^_, _≤_, _<_}
 use native.Mathlib.Decide.{decLe}
 use native.Mathlib.Omega.{arith}
@@ -10,9 +10,10 @@ use borrow.Author.Tests.{eqb-true, eq-eqb, ne-eqb}
 use Rattle.labels.specs.Sets.{has, without, replace}
 use Rattle.labels.proofs.Sets.{has-or, has-and, has-pow, has-without, has-replace, has-ge, set-ext}
 use Rattle.tables.specs.Triples.{markU, relabelTriple}
 use Rattle.batches.specs.declared.Judge.{Judge}
 use Rattle.batches.specs.Batches.{isMet, settled, judgeTriple}
-use Rattle.batches.proofs.Judging.{with-has, without-or, marked, judged}
+use Rattle.batches.proofs.Words.{with-has, without-or}
+use Rattle.fusing.proofs.Judging.{taken, absent-out, marked, judged}
 
 -- ---- sets
 
@@ -55,13 +56,6 @@ module _ (n k a : ℕ) where
   unfolding replace
   present e = rw e
 
-taken : (n a : ℕ) → has n (without n a) ≡ false
-taken n a = has-without n n a ∙ ap (λ b. has n a && not b) (eq-eqb n n refl) ∙ and-false (has n a)
-
-absent-out : (n a : ℕ) → has n a ≡ false → without n a ≡ a
-unfolding without
-absent-out n a e = rw e
-
 -- sets alike where a has a number
 and-agree : (a y z : ℕ) → ((m : ℕ) → has m a ≡ true → has m y ≡ has m z) → bitAnd y a ≡ bitAnd z a
 and-agree a y z e = set-ext (bitAnd y a) (bitAnd z a) (λ m. has-and m y a ∙ step m (has m a) refl ∙ sym (has-and m z a))
@@ -87,9 +81,9 @@ module _ (K g h : ℕ) (lg : g < K) (lh : h < K) (ne : g ≡ h → ⊥) where
   abbrev put : Bool → ℕ → ℕ
   put b z = cond b z (bitOr (2 ^ (2 * K + h)) z)
 
-  relabel-more : (y z : ℕ) → replace (2 * K + g) (2 * K + h) y ≡ bitOr (2 ^ (2 * K + h)) z → relabelTriple K g h y ≡ bitOr (2 ^ (2 * K + h)) (replace g h (replace (K + g) (K + h) z))
+  relabel-put : (y z : ℕ) → replace (2 * K + g) (2 * K + h) y ≡ bitOr (2 ^ (2 * K + h)) z → relabelTriple K g h y ≡ bitOr (2 ^ (2 * K + h)) (replace g h (replace (K + g) (K + h) z))
   unfolding relabelTriple
-  relabel-more y z e =
+  relabel-put y z e =
       ap (λ t. replace g h (replace (K + g) (K + h) t)) e
       ∙ ap (replace g h) (replace-other (K + g) (2 * K + h) z (λ x. omega arith) (K + h))
       ∙ replace-other g (2 * K + h) (replace (K + g) (K + h) z) (λ x. omega arith) h
@@ -98,7 +92,7 @@ module _ (K g h : ℕ) (lg : g < K) (lh : h < K) (ne : g ≡ h → ⊥) where
   unfolding relabelTriple
   is-put true y = ap (λ t. replace g h (replace (K + g) (K + h) t)) (absent (2 * K + g) (2 * K + h) (without (2 * K + g) y) (taken (2 * K + g) y))
   is-put false y =
-      relabel-more (bitOr y (2 ^ (2 * K + g))) (without (2 * K + g) y)
+      relabel-put (bitOr y (2 ^ (2 * K + g))) (without (2 * K + g) y)
       (present (2 * K + g) (2 * K + h) (bitOr y (2 ^ (2 * K + g))) (with-has (2 * K + g) y) ∙ ap (bitOr (2 ^ (2 * K + h))) (without-or (2 * K + g) y))
 
   cleared-put : (b : Bool) (y : ℕ) → cleared (put b y) ≡ put b (cleared y)

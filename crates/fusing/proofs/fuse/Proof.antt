@@ -1,14 +1,14 @@
--- `batches::fuse`: the commands left, after the words so far, lead to what all commands make.
+-- `fusing::fuse`: the commands left, after the words so far, lead to what all commands make.
 use mathlib.Core.Path.{_≡_, refl, _∙_}
 use mathlib.Core.List.{List}
 use Prim.Native.Nat.{ℕ, _-_, _≤_}
 use native.Mathlib.Omega.{arith}
 use lib.ListN.{length, take, drop}
 use Rattle.labels.specs.Labels.{labelCount}
 use Rattle.batches.specs.Batches.{commandsOf, steps, wordSteps}
-use Rattle.batches.proofs.Fusing.{next-command, no-commands}
-use Rattle.batches.proofs.fuse.Statement.{statement}
-use Rattle.batches.proofs.fuse.Tie as tie
+use Rattle.fusing.proofs.Fusing.{next-command, no-commands}
+use Rattle.fusing.proofs.fuse.Statement.{statement}
+use Rattle.fusing.proofs.fuse.Tie as tie
 
 abbrev Inv-loop : tie.InvT-loop
 Inv-loop code₀ ops m₀ k₀ code m k =

@@ -1,11 +1,11 @@
--- `batches::with_atoms`: by the kind.
+-- `fusing::with_atoms`: by the kind.
 use mathlib.Core.Path.{refl}
 use Prim.Native.Nat.{_+_}
 use native.Mathlib.Omega.{arith}
-use Rattle.batches.proofs.Words.{with-mark, head-in, positive-in, negative-in}
+use Rattle.fusing.proofs.Words.{with-mark, head-in, positive-in, negative-in}
 use borrow.Author.Needs.{needs}
-use Rattle.batches.proofs.with_atoms.Statement.{statement}
-use Rattle.batches.proofs.with_atoms.Tie as tie
+use Rattle.fusing.proofs.with_atoms.Statement.{statement}
+use Rattle.fusing.proofs.with_atoms.Tie as tie
 
 enum-told : tie.Need-enum-told
 enum-told c = search needs

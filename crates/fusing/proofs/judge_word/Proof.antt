@@ -1,10 +1,10 @@
--- `batches::judge_word`.
+-- `fusing::judge_word`.
 use mathlib.Core.Path.{refl}
 use native.Mathlib.Omega.{arith}
-use Rattle.batches.proofs.Words.{word-fits}
+use Rattle.fusing.proofs.Words.{word-fits}
 use borrow.Author.Needs.{needs}
-use Rattle.batches.proofs.judge_word.Statement.{statement}
-use Rattle.batches.proofs.judge_word.Tie as tie
+use Rattle.fusing.proofs.judge_word.Statement.{statement}
+use Rattle.fusing.proofs.judge_word.Tie as tie
 
 mul-result : tie.Need-mul-result
 mul-result c = search needs

@@ -1,7 +1,7 @@
 -- A rule judged at once does what the rule, its connects and a relabel of it do one after the other. Assumes nothing.
 use mathlib.Core.Path.{_≡_, refl, sym, ap, ap₂, _∙_}
 use mathlib.Core.Bool.{Bool, true, false, cond, not, _&&_, _||_, true≢false, and-false, and-true, or-true, or-false}
-use Prim.Native.Nat.{ℕ, _+_, _-_, _*_, _^_, _≤_, _<_}
+use Prim.Native.Nat.{ℕ, _+_, _*_, _^_, _<_}
 use native.Mathlib.Omega.{arith}
 use lib.Bits.{bitAnd, bitOr}
 use lib.Dec.{eqb}
@@ -12,37 +12,19 @@ use Rattle.labels.proofs.Sets.{has-none, has-none-zero, has-or, has-and, has-po
 use Rattle.expression.specs.declared.Kind.{Kind}
 use Rattle.expression.specs.declared.Kind.the-variants.{Head, Positive, Negative}
 use Rattle.tables.specs.Triples.{markU, relabelTriple, settles, connectTriple}
 use Rattle.batches.specs.declared.Judge.{Judge}
 use Rattle.batches.specs.Batches.{isMet, settled, judgeTriple}
+use Rattle.batches.proofs.Words.{without-or}
 
 -- ---- sets
 
--- one number more, and a set without it
-pub without-or : (u r : ℕ) → without u (bitOr r (2 ^ u)) ≡ without u r
-without-or u r = set-ext (without u (bitOr r (2 ^ u))) (without u r) (λ m. has-without u m (bitOr r (2 ^ u)) ∙ ap (λ b. b && not (eqb m u)) (has-or m r (2 ^ u) ∙ ap (λ b. has m r || b) (has-pow m u)) ∙ step (has m r) (eqb m u) ∙ sym (has-without u m r))
-  where
-    step : (a b : Bool) → ((a || b) && not b) ≡ (a && not b)
-    step true b = refl
-    step false true = refl
-    step false false = refl
+-- taken out, it is not in the set
+pub taken : (n a : ℕ) → has n (without n a) ≡ false
+taken n a = has-without n n a ∙ ap (λ b. has n a && not b) (eq-eqb n n refl) ∙ and-false (has n a)
 
-pub with-has : (u r : ℕ) → has u (bitOr r (2 ^ u)) ≡ true
-with-has u r = has-or u r (2 ^ u) ∙ ap (λ b. has u r || b) (has-pow u u ∙ eq-eqb u u refl) ∙ or-true (has u r)
-
--- taken out of the set that surely has it
-pub taken-out : (u r : ℕ) → bitOr r (2 ^ u) - 2 ^ u ≡ without u r
+pub absent-out : (n a : ℕ) → has n a ≡ false → without n a ≡ a
 unfolding without
-taken-out u r = go (with-has u r) ∙ without-or u r
-  where
-    go : has u (bitOr r (2 ^ u)) ≡ true → bitOr r (2 ^ u) - 2 ^ u ≡ without u (bitOr r (2 ^ u))
-    go e = rw e
-
-without-twice : (u r : ℕ) → without u (without u r) ≡ without u r
-unfolding without
-without-twice u r = go (has-without u u r ∙ ap (λ b. has u r && not b) (eq-eqb u u refl) ∙ and-false (has u r))
-  where
-    go : has u (without u r) ≡ false → without u (without u r) ≡ without u r
-    go e = ap (λ b. cond b (without u r - 2 ^ u) (without u r)) e
+absent-out n a e = rw e
 
 replace-same : (m a : ℕ) → replace m m a ≡ a
 replace-same m a = set-ext (replace m m a) a (λ k. has-replace m m k a ∙ step k (eqb k m) refl)
@@ -99,7 +81,7 @@ module _ (b : Bool) (u r : ℕ) where
   marked-more d = go b d
     where
       go : (b d : Bool) → cond d (without u (cond b (without u r) (bitOr r (2 ^ u)))) (cond b (without u r) (bitOr r (2 ^ u))) ≡ cond (b || d) (without u r) (bitOr r (2 ^ u))
-      go true true = without-twice u r
+      go true true = absent-out u (without u r) (taken u r)
       go true false = refl
       go false true = without-or u r
       go false false = refl

@@ -1,13 +1,13 @@
--- `batches::joined`: by the command's form.
+-- `fusing::joined`: by the command's form.
 use mathlib.Core.Path.{refl, sym, _∙_}
 use native.Mathlib.Omega.{arith}
 use Rattle.labels.specs.Labels.{labelCount}
 use Rattle.candidates.proofs.Mapping.{relabel-labels, connect-labels}
 use Rattle.batches.specs.Batches.{isMet}
-use Rattle.batches.proofs.Words.{connect-fused, relabel-fused}
+use Rattle.fusing.proofs.Words.{connect-fused, relabel-fused}
 use borrow.Author.Needs.{needs}
-use Rattle.batches.proofs.joined.Statement.{statement}
-use Rattle.batches.proofs.joined.Tie as tie
+use Rattle.fusing.proofs.joined.Statement.{statement}
+use Rattle.fusing.proofs.joined.Tie as tie
 
 returns : tie.Need-returns
 returns c = search needs

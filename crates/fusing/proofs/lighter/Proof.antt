@@ -1,13 +1,13 @@
--- `batches::lighter`: one test after the other.
+-- `fusing::lighter`: one test after the other.
 use mathlib.Core.Path.{_≡_, refl, sym, _∙_}
 use native.Mathlib.Omega.{arith}
 use Rattle.labels.specs.Labels.{labelCount}
 use Rattle.batches.specs.Batches.{isMet}
-use Rattle.batches.proofs.Leaving.{left-to}
-use Rattle.batches.proofs.Words.{both-judged, three-false}
+use Rattle.fusing.proofs.Leaving.{left-to}
+use Rattle.fusing.proofs.Words.{both-judged, three-false}
 use borrow.Author.Needs.{needs}
-use Rattle.batches.proofs.lighter.Statement.{statement}
-use Rattle.batches.proofs.lighter.Tie as tie
+use Rattle.fusing.proofs.lighter.Statement.{statement}
+use Rattle.fusing.proofs.lighter.Tie as tie
 
 returns : tie.Need-returns
 returns c = search needs

@@ -1,8 +1,8 @@
--- `batches::lighten`: the word in place of the last but one.
-use Rattle.batches.proofs.Fusing.{put-first}
+-- `fusing::lighten`: the word in place of the last but one.
+use Rattle.fusing.proofs.Fusing.{put-first}
 use borrow.Author.Needs.{needs}
-use Rattle.batches.proofs.lighten.Statement.{statement}
-use Rattle.batches.proofs.lighten.Tie as tie
+use Rattle.fusing.proofs.lighten.Statement.{statement}
+use Rattle.fusing.proofs.lighten.Tie as tie
 
 mul-lighter : tie.Need-mul-lighter
 mul-lighter c = search needs

@@ -1,4 +1,4 @@
--- Words one after the other on a row, and words put behind others for commands. Assumes nothing.
+-- Words put behind others, or in place of them, for commands. Assumes nothing.
 use mathlib.Core.Path.{_≡_, refl, sym, ap, ap₂, _∙_}
 use mathlib.Core.List.{List, [], _∷_, _++_, map}
 use Prim.Native.Nat.{ℕ, suc, _+_, _-_, _≤_, _<_}
@@ -9,21 +9,8 @@ use lib.Seq.{drop-cons, take-suc, take-suc-set, getD-set-other}
 use Rattle.labels.specs.Labels.{labelCount}
 use Rattle.expression.specs.declared.Command.{Command}
 use Rattle.tables.specs.Definitions.{ownTriple, subsets}
 use Rattle.batches.specs.Batches.{commandOf, commandsOf, stepTriple, step, steps, wordTriple, wordStep, wordSteps}
-
--- ---- words on a row
-
--- the next word of those left
-pub next-word : (goal code : List ℕ) (k : ℕ) → k < length code → (own : ℕ) (run : List ℕ) → wordSteps labelCount (drop k code) (own ∷ run) ≡ goal
-    → (own' : ℕ) (run' : List ℕ) → own' ≡ wordTriple labelCount (getD code k 0) own own → run' ≡ map (wordTriple labelCount (getD code k 0) own) run
-    → wordSteps labelCount (drop (k + 1) code) (own' ∷ run') ≡ goal
-unfolding wordSteps wordStep
-next-word goal code k l own run h own' run' eo er = rw (eo, er, add-one k) (rw (drop-cons code k 0 l) at h)
-
--- none is left
-pub no-words : (code : List ℕ) (k : ℕ) → length code ≤ k → (x goal : List ℕ) → wordSteps labelCount (drop k code) x ≡ goal → x ≡ goal
-unfolding wordSteps
-no-words code k l x goal h = rw (drop-of-length-le code {i = k} l) at h
+use Rattle.batches.proofs.Words.{map-same}
 
 -- ---- a word for a command
 
@@ -40,11 +27,7 @@ module _ (s : ℕ) (c : Command) where
   as-command : ((q r : ℕ) → wordTriple labelCount s q r ≡ stepTriple labelCount c q r) → (x : List ℕ) → wordStep labelCount s x ≡ step labelCount c x
   unfolding wordStep step
   as-command e x =
-      ap₂ {C = List ℕ} (λ y m. y ∷ m) (e (ownTriple x) (ownTriple x)) (map-two (stepTriple labelCount c (ownTriple x)) (λ r. r) (wordTriple labelCount s (ownTriple x)) (e (ownTriple x)) (subsets x) ∙ ap (map (stepTriple labelCount c (ownTriple x))) (map-self (subsets x)))
-    where
-      map-self : (l : List ℕ) → map (λ (r : ℕ). r) l ≡ l
-      map-self [] = refl
-      map-self (y ∷ l) = ap (λ (m : List ℕ). y ∷ m) (map-self l)
+      ap₂ {C = List ℕ} (λ y m. y ∷ m) (e (ownTriple x) (ownTriple x)) (map-same (wordTriple labelCount s (ownTriple x)) (stepTriple labelCount c (ownTriple x)) (e (ownTriple x)) (subsets x))
 
   as-both : (w : ℕ) → ((q r : ℕ) → wordTriple labelCount s q r ≡ stepTriple labelCount c (wordTriple labelCount w q q) (wordTriple labelCount w q r)) → (x : List ℕ)
       → wordStep labelCount s x ≡ step labelCount c (wordStep labelCount w x)

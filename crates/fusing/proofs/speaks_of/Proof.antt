@@ -1,9 +1,9 @@
--- `batches::speaks_of`: one test after the other.
+-- `fusing::speaks_of`: one test after the other.
 use borrow.Author.Tests.{eq-eqb, ne-eqb}
 use Rattle.labels.specs.Sets.{has}
 use borrow.Author.Needs.{needs}
-use Rattle.batches.proofs.speaks_of.Statement.{statement}
-use Rattle.batches.proofs.speaks_of.Tie as tie
+use Rattle.fusing.proofs.speaks_of.Statement.{statement}
+use Rattle.fusing.proofs.speaks_of.Tie as tie
 
 shr-if1 : tie.Need-shr-if1
 shr-if1 c = search needs
