@@ -1,5 +1,3 @@
 pub mod Steps
-pub mod Judging
 pub mod Words
-pub mod Fusing
 pub mod Gathering

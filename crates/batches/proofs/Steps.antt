@@ -2,7 +2,7 @@
 use mathlib.Core.Path.{_≡_, refl, ap, _∙_}
 use mathlib.Core.Bool.{Bool, true, false, cond}
 use mathlib.Core.List.{List, [], _∷_, map}
-use Prim.Native.Nat.{ℕ, zero, suc, _+_, _*_, _/_, _%_, _^_, _≤_, _<_}
+use Prim.Native.Nat.{ℕ, zero, suc, _+_, _*_, _/_, _%_, _^_, _<_}
 use native.Mathlib.Nat.{one-mul, mod-lt, not-suc-le-zero, le-of-suc-le-suc}
 use native.Mathlib.Omega.{arith}
 use lib.Bits.{bitOr}
@@ -133,10 +133,14 @@ module _ (K : ℕ) (c : Command) where
   unfolding stepTriple
   union-steps q r e = rw e
 
+-- one mark in a word
+pub mark-is : (n : ℕ) → n < 32 → (1 * 2 ^ n) % 2 ^ 32 ≡ 2 ^ n
+mark-is n l = shl-exact 1 n 32 (omega arith) (omega arith) ∙ one-mul (2 ^ n)
+
 -- the mark of a rule in a word
 pub marked : (r g : ℕ) → g < labelCount → bitOr r ((1 * 2 ^ (2 * labelCount + g)) % 2 ^ 32) ≡ bitOr r (markU labelCount g)
 unfolding markU
-marked r g l = ap (bitOr r) (shl-exact 1 (2 * labelCount + g) 32 (omega arith) (omega arith) ∙ one-mul (2 ^ (2 * labelCount + g)))
+marked r g l = ap (bitOr r) (mark-is (2 * labelCount + g) (omega arith))
 
 -- a list mapped, place by place
 pub map-read : (f : ℕ → ℕ) (l : List ℕ) (i : ℕ) → i < length l → getD (map f l) i 0 ≡ f (getD l i 0)

@@ -1,55 +1,73 @@
--- The words of rules judged at once, and what words make of triples one after the other. Assumes nothing.
+-- What words make of a triple, by their size, and of a row one after the other; a rule judged at once, by its tests. Assumes nothing.
 use mathlib.Core.Path.{_≡_, refl, sym, ap, ap₂, _∙_}
-use mathlib.Core.Bool.{Bool, true, false, cond, not, _||_, or-true, or-false}
-use mathlib.Core.List.{List, [], _∷_, _++_, map}
-use Prim.Native.Nat.{ℕ, _+_, _-_, _*_, _/_, _%_, _^_, _≤_, _<_}
-use native.Mathlib.Nat.{one-mul}
-use native.Mathlib.Omega.{arith}
-use lib.Bits.{bitAnd, bitOr, or-lt, and-zero-r}
-use lib.Pow.{shl-exact, pow-lt}
-use lib.Dec.{eqb, ltb}
-use borrow.Author.Tests.{lt-ltb, le-ltb}
-use lib.ListN.{length, take, drop, set, getD}
+use mathlib.Core.Bool.{Bool, true, false, cond, not, _&&_, _||_, or-true}
+use mathlib.Core.List.{List, [], _∷_, map}
+use Prim.Native.Nat.{ℕ, _+_, _-_, _*_, _^_, _≤_, _<_}
+use native.Mathlib.Numerals.{add-one}
+use lib.Bits.{bitOr}
+use lib.Dec.{eqb}
+use borrow.Author.Tests.{eq-eqb, ne-eqb, lt-ltb, le-ltb}
+use lib.ListN.{length, drop, getD, drop-of-length-le}
+use lib.Seq.{drop-cons}
 use Rattle.labels.specs.Labels.{labelCount}
 use Rattle.labels.specs.Sets.{has, without}
-use Rattle.labels.proofs.Sets.{has-le}
-use Rattle.expression.specs.declared.Kind.{Kind}
-use Rattle.expression.specs.declared.Kind.the-variants.{Head, Positive, Negative}
+use Rattle.labels.proofs.Sets.{has-le, has-or, has-pow, has-without, set-ext}
 use Rattle.expression.specs.declared.Command.{Command}
-use Rattle.expression.specs.declared.Command.the-variants.{Rule, Relabel, Connect}
+use Rattle.expression.specs.declared.Command.the-variants.{Relabel}
 use Rattle.expression.specs.Commands.{Suits}
-use Rattle.tables.specs.Triples.{markU, settles, relabelTriple, connectTriple}
+use Rattle.tables.specs.Triples.{markU, relabelTriple}
 use Rattle.candidates.specs.Candidates.{mapTriple}
 use Rattle.batches.specs.declared.Judge.{Judge}
-use Rattle.batches.specs.Batches.{commandOf, stepTriple, step, isMet, Fits, judgesFrom, judgeOf, judgeTriple, wordTriple, wordStep, wordSteps}
-use Rattle.batches.proofs.Steps.{is-negative, rule-word}
-use Rattle.batches.proofs.Judging.{with-has, meets-more, connect-more, relabel-more, no-atoms}
+use Rattle.batches.specs.Batches.{commandOf, stepTriple, isMet, judgesFrom, settled, judgeOf, judgeTriple, wordTriple, wordStep, wordSteps}
 
--- one mark in a word
-pub mark-is : (n : ℕ) → n < 32 → (1 * 2 ^ n) % 2 ^ 32 ≡ 2 ^ n
-mark-is n l = shl-exact 1 n 32 (omega arith) (omega arith) ∙ one-mul (2 ^ n)
+-- ---- a rule, by its tests
 
-pub with-mark : (k a n : ℕ) → a < 2 ^ k → n < k → k ≤ 32 → bitOr a ((1 * 2 ^ n) % 2 ^ 32) < 2 ^ k
-with-mark k a n h l m = rw (mark-is n (omega arith)) (or-lt k a (2 ^ n) h (pow-lt l))
+-- one number more, and a set without it
+pub without-or : (u r : ℕ) → without u (bitOr r (2 ^ u)) ≡ without u r
+without-or u r = set-ext (without u (bitOr r (2 ^ u))) (without u r) (λ m. has-without u m (bitOr r (2 ^ u)) ∙ ap (λ b. b && not (eqb m u)) (has-or m r (2 ^ u) ∙ ap (λ b. has m r || b) (has-pow m u)) ∙ step (has m r) (eqb m u) ∙ sym (has-without u m r))
+  where
+    step : (a b : Bool) → ((a || b) && not b) ≡ (a && not b)
+    step true b = refl
+    step false true = refl
+    step false false = refl
+
+pub with-has : (u r : ℕ) → has u (bitOr r (2 ^ u)) ≡ true
+with-has u r = has-or u r (2 ^ u) ∙ ap (λ b. has u r || b) (has-pow u u ∙ eq-eqb u u refl) ∙ or-true (has u r)
+
+-- taken out of the set that surely has it
+pub taken-out : (u r : ℕ) → bitOr r (2 ^ u) - 2 ^ u ≡ without u r
+unfolding without
+taken-out u r = go (with-has u r) ∙ without-or u r
+  where
+    go : has u (bitOr r (2 ^ u)) ≡ true → bitOr r (2 ^ u) - 2 ^ u ≡ without u (bitOr r (2 ^ u))
+    go e = rw e
 
 pub mark-within : (g r : ℕ) → 2 ^ (2 * labelCount + g) ≤ bitOr r (2 ^ (2 * labelCount + g))
 mark-within g r = has-le (2 * labelCount + g) (bitOr r (2 ^ (2 * labelCount + g))) (with-has (2 * labelCount + g) r)
 
--- a rule's word, read again
-pub word-fits : (m n g h w : ℕ) → Fits labelCount (record { marks = m; negative = n; label = g; after = h }) → w ≡ ((labelCount + h) * labelCount + g) * 2 ^ (3 * labelCount) + n * 2 ^ (2 * labelCount) + m
-    → judgeOf labelCount w ≡ record { marks = m; negative = n; label = g; after = h }
-unfolding judgeOf
-word-fits m n g h w f e =
-    let x : ℕ = (labelCount + h) * labelCount + g in
-    let y : ℕ = x * 2 ^ labelCount + n in
-    let t : w / 2 ^ (2 * labelCount) ≡ y = omega (arith, f .0, e) in
-    let u : y / 2 ^ labelCount ≡ x = omega (arith, f .1) in
-    let v : w / 2 ^ (3 * labelCount) ≡ x = omega (arith, t, u) in
-    let a : w % 2 ^ (2 * labelCount) ≡ m = omega (arith, f .0, e) in
-    let b : y % 2 ^ labelCount ≡ n = omega (arith, f .1) in
-    let c : x % labelCount ≡ g = omega (arith, f .2) in
-    let z : x / labelCount ≡ labelCount + h = omega (arith, f .2) in
-    let d : (labelCount + h) % labelCount ≡ h = omega (arith, f .3) in rw (a, v, t, b, c, z, d)
+module _ (K g h q r : ℕ) (b : Bool) (y z : ℕ) (f : z ≡ mapTriple K (Relabel g h) q y) where
+  pub met-rule : b ≡ true → y ≡ without (2 * K + g) r → z ≡ settled K g h b r
+  unfolding mapTriple settled
+  met-rule t e = f ∙ ap (relabelTriple K g h) (e ∙ ap (λ (d : Bool). cond d (without (2 * K + g) r) (bitOr r (markU K g))) (sym t))
+
+  pub unmet-rule : b ≡ false → y ≡ bitOr r (markU K g) → z ≡ settled K g h b r
+  unfolding mapTriple settled
+  unmet-rule t e = f ∙ ap (relabelTriple K g h) (e ∙ ap (λ (d : Bool). cond d (without (2 * K + g) r) (bitOr r (markU K g))) (sym t))
+
+module _ (K : ℕ) (j : Judge) (q r : ℕ) (b : Bool) (e : b ≡ isMet j q r) where
+  pub label-settled : (z : ℕ) → j .leaves ≡ 0 → z ≡ settled K (j .label) (j .after) b r → z ≡ judgeTriple K j q r
+  unfolding judgeTriple
+  label-settled z l f = f ∙ ap (λ (d : Bool). settled K (j .label) (j .after) d r) e ∙ rw (eq-eqb (j .leaves) 0 l)
+
+  pub label-left : (z : ℕ) → (j .leaves ≡ 0 → ⊥) → z ≡ cond b r (bitOr r (markU K (j .after))) → z ≡ judgeTriple K j q r
+  unfolding judgeTriple
+  label-left z l f = f ∙ ap (λ (d : Bool). cond d r (bitOr r (markU K (j .after)))) e ∙ rw (ne-eqb (j .leaves) 0 l)
+
+pub suits-relabel : (K i j : ℕ) → i < K → j < K → Suits K (Relabel i j)
+unfolding Suits
+suits-relabel K i j a b = (a, b)
+
+-- ---- words
 
 -- what a word makes of a triple, by its size
 module _ (w q r : ℕ) where
@@ -79,100 +97,14 @@ module _ (w q : ℕ) (l : List ℕ) where
   pub judges-made : (j : Judge) → j ≡ judgeOf labelCount w → judgesFrom labelCount ≤ w → map (judgeTriple labelCount j q) l ≡ map (wordTriple labelCount w q) l
   judges-made j e k = map-same (judgeTriple labelCount j q) (wordTriple labelCount w q) (λ r. judge-made w q r (judgeTriple labelCount j q r) j e refl k) l
 
--- ---- a rule, by its tests
+-- the next word of those left
+pub next-word : (goal code : List ℕ) (k : ℕ) → k < length code → (own : ℕ) (run : List ℕ) → wordSteps labelCount (drop k code) (own ∷ run) ≡ goal
+    → (own' : ℕ) (run' : List ℕ) → own' ≡ wordTriple labelCount (getD code k 0) own own → run' ≡ map (wordTriple labelCount (getD code k 0) own) run
+    → wordSteps labelCount (drop (k + 1) code) (own' ∷ run') ≡ goal
+unfolding wordSteps wordStep
+next-word goal code k l own run h own' run' eo er = rw (eo, er, add-one k) (rw (drop-cons code k 0 l) at h)
 
-module _ (K : ℕ) (j : Judge) (q r : ℕ) (b : Bool) (e : b ≡ isMet j q r) (y z : ℕ) (f : z ≡ mapTriple K (Relabel (j .label) (j .after)) q y) where
-  pub met-rule : b ≡ true → y ≡ without (2 * K + j .label) r → z ≡ judgeTriple K j q r
-  unfolding mapTriple judgeTriple
-  met-rule t g = f ∙ ap (relabelTriple K (j .label) (j .after)) (g ∙ ap (λ (d : Bool). cond d (without (2 * K + j .label) r) (bitOr r (markU K (j .label)))) (sym t ∙ e))
-
-  pub unmet-rule : b ≡ false → y ≡ bitOr r (markU K (j .label)) → z ≡ judgeTriple K j q r
-  unfolding mapTriple judgeTriple
-  unmet-rule t g = f ∙ ap (relabelTriple K (j .label) (j .after)) (g ∙ ap (λ (d : Bool). cond d (without (2 * K + j .label) r) (bitOr r (markU K (j .label)))) (sym t ∙ e))
-
-pub suits-relabel : (K i j : ℕ) → i < K → j < K → Suits K (Relabel i j)
-unfolding Suits
-suits-relabel K i j a b = (a, b)
-
--- ---- atoms put into a rule
-
-or-back : (a b c : Bool) → (a || (b || c)) ≡ ((a || b) || c)
-or-back true b c = refl
-or-back false b c = refl
-
-or-last : (a b c : Bool) → ((a || c) || b) ≡ ((a || b) || c)
-or-last true b c = refl
-or-last false true c = or-true c
-or-last false false c = or-false c
-
-module _ (j : Judge) (k : Kind) (i q r : ℕ) where
-  pub head-in : i < labelCount → k ≡ Head
-      → isMet (record { marks = bitOr (j .marks) ((1 * 2 ^ i) % 2 ^ 32); negative = j .negative; label = j .label; after = j .after }) q r ≡ (isMet j q r || settles labelCount k i q r)
-  unfolding isMet settles
-  head-in l e = rw (e, mark-is i (omega arith), meets-more r (j .marks) i) (or-back (not (eqb (bitAnd q (j .negative)) 0)) (not (eqb (bitAnd r (j .marks)) 0)) (has i r))
-
-  pub positive-in : i < labelCount → k ≡ Positive
-      → isMet (record { marks = bitOr (j .marks) ((1 * 2 ^ (labelCount + i)) % 2 ^ 32); negative = j .negative; label = j .label; after = j .after }) q r ≡ (isMet j q r || settles labelCount k i q r)
-  unfolding isMet settles
-  positive-in l e = rw (e, mark-is (labelCount + i) (omega arith), meets-more r (j .marks) (labelCount + i)) (or-back (not (eqb (bitAnd q (j .negative)) 0)) (not (eqb (bitAnd r (j .marks)) 0)) (has (labelCount + i) r))
-
-  pub negative-in : i < labelCount → k ≡ Negative
-      → isMet (record { marks = j .marks; negative = bitOr (j .negative) ((1 * 2 ^ i) % 2 ^ 32); label = j .label; after = j .after }) q r ≡ (isMet j q r || settles labelCount k i q r)
-  unfolding isMet settles
-  negative-in l e = rw (e, mark-is i (omega arith), meets-more q (j .negative) i) (or-last (not (eqb (bitAnd q (j .negative)) 0)) (not (eqb (bitAnd r (j .marks)) 0)) (has i q))
-
--- ---- a rule's word, and the word after a command more
-
-module _ (w : ℕ) (j : Judge) (lw : judgesFrom labelCount ≤ w) (ej : j ≡ judgeOf labelCount w) (s : ℕ) (x : Judge) (ls : judgesFrom labelCount ≤ s) (ex : judgeOf labelCount s ≡ x) where
-  before : (q r : ℕ) → judgeTriple labelCount j q r ≡ wordTriple labelCount w q r
-  before q r = ap (λ (y : Judge). judgeTriple labelCount y q r) ej ∙ sym (by-judge w q r lw)
-
-  then : (q r : ℕ) → wordTriple labelCount s q r ≡ judgeTriple labelCount x q r
-  then q r = by-judge s q r ls ∙ ap (λ (y : Judge). judgeTriple labelCount y q r) ex
-
-  module _ (g : ℕ) (el : j .label ≡ g) (ea : j .after ≡ g) (c : Command) (q r : ℕ) where
-    pub connect-fused : (k : Kind) (i : ℕ) → c ≡ Connect k i g → i < labelCount → x .label ≡ g → x .after ≡ g → isMet x q r ≡ (isMet j q r || settles labelCount k i q r)
-        → wordTriple labelCount s q r ≡ stepTriple labelCount c (wordTriple labelCount w q q) (wordTriple labelCount w q r)
-    unfolding stepTriple
-    connect-fused k i ec l xl xa m =
-        then q r
-        ∙ connect-more labelCount j x g el ea q r k i l xl xa m
-        ∙ ap₂ (connectTriple labelCount k i g) (before q q) (before q r)
-        ∙ ap (λ (d : Command). stepTriple labelCount d (wordTriple labelCount w q q) (wordTriple labelCount w q r)) (sym ec)
-
-    pub relabel-fused : (h : ℕ) → c ≡ Relabel g h → x .label ≡ g → x .after ≡ h → isMet x q r ≡ isMet j q r
-        → wordTriple labelCount s q r ≡ stepTriple labelCount c (wordTriple labelCount w q q) (wordTriple labelCount w q r)
-    unfolding stepTriple
-    relabel-fused h ec xl xa m =
-        then q r
-        ∙ relabel-more labelCount j x g el ea q r h xl xa m
-        ∙ ap (relabelTriple labelCount g h) (before q r)
-        ∙ ap (λ (d : Command). stepTriple labelCount d (wordTriple labelCount w q q) (wordTriple labelCount w q r)) (sym ec)
-
--- ---- a word for one command
-
-no-marks : (g q r : ℕ) → isMet (record { marks = 0; negative = 0; label = g; after = g }) q r ≡ false
-unfolding isMet
-no-marks g q r = rw (and-zero-r q, and-zero-r r)
-
--- a rule
-pub rule-alone : (w s : ℕ) → w < labelCount → judgesFrom labelCount ≤ s → judgeOf labelCount s ≡ record { marks = 0; negative = 0; label = w; after = w }
-    → (q r : ℕ) → wordTriple labelCount s q r ≡ stepTriple labelCount (commandOf labelCount w) q r
-unfolding stepTriple
-rule-alone w s l ls ex q r =
-    by-judge s q r ls
-    ∙ ap (λ (y : Judge). judgeTriple labelCount y q r) ex
-    ∙ no-atoms labelCount (record { marks = 0; negative = 0; label = w; after = w }) w q r refl refl (no-marks w q r)
-    ∙ ap (λ (d : Command). stepTriple labelCount d q r) (sym (rule-word w l))
-
--- a word that is too large for a command's stands for a connect
-pub large-alone : (w : ℕ) → judgesFrom labelCount ≤ w → (q r : ℕ)
-    → wordTriple labelCount (4 * labelCount * labelCount + w % (labelCount * labelCount)) q r ≡ stepTriple labelCount (commandOf labelCount w) q r
-large-alone w h q r =
-    let s : ℕ = 4 * labelCount * labelCount + w % (labelCount * labelCount) in
-    let f : s / labelCount / labelCount ≡ 4 = omega arith in
-    let b : s / labelCount % labelCount ≡ w / labelCount % labelCount = omega arith in
-    let e : s % labelCount ≡ w % labelCount = omega arith in
-    let z = is-negative labelCount s (λ x. omega (arith, f, x)) (λ x. omega (arith, f, x)) (λ x. omega (arith, f, x)) (λ x. omega (arith, f, x)) in
-    let y = is-negative labelCount w (λ x. omega (arith, h, x)) (λ x. omega (arith, h, x)) (λ x. omega (arith, h, x)) (λ x. omega (arith, h, x)) in
-    by-command s q r (omega arith) ∙ ap (λ (d : Command). stepTriple labelCount d q r) (sym z ∙ ap₂ {C = Command} (λ u v. Connect Negative u v) b e ∙ y)
+-- none is left
+pub no-words : (code : List ℕ) (k : ℕ) → length code ≤ k → (x goal : List ℕ) → wordSteps labelCount (drop k code) x ≡ goal → x ≡ goal
+unfolding wordSteps
+no-words code k l x goal h = rw (drop-of-length-le code {i = k} l) at h

@@ -72,16 +72,22 @@ module _ (K : ℕ) where
 
   -- ---- a rule with its connects, and the relabel behind them, at once
 
-  -- the rule's label is out of U or in it, and then relabelled
+  -- a rule's label g is out of U where the rule is met, else in U, and is relabelled h then
+  unfoldable pub settled : ℕ → ℕ → Bool → ℕ → ℕ
+  settled g h met r = relabelTriple K g h (cond met (without (2 * K + g) r) (bitOr r (markU K g)))
+
+  -- what the rule makes of a triple; where it leaves what has its label, the label after is put into U at most
   unfoldable pub judgeTriple : Judge → ℕ → ℕ → ℕ
   judgeTriple j q r =
-      relabelTriple K (j .label) (j .after) (cond (isMet j q r) (without (2 * K + j .label) r) (bitOr r (markU K (j .label))))
+      cond (eqb (j .leaves) 0)
+      (settled (j .label) (j .after) (isMet j q r) r)
+      (cond (isMet j q r) r (bitOr r (markU K (j .after))))
 
   -- its numbers are those of a word
   abbrev pub Fits : Judge → Type 0
-  Fits j = (j .marks < 2 ^ (2 * K)) × (j .negative < 2 ^ K) × (j .label < K) × (j .after < K)
+  Fits j = (j .marks < 2 ^ (2 * K)) × (j .negative < 2 ^ K) × (j .label < K) × (j .after < K) × (j .leaves < 2)
 
-  -- its word, from judgesFrom on: the marks, the labels of negative atoms, its label, the one after
+  -- its word, from judgesFrom on: the marks, the labels of negative atoms, its label, the one after, and whether what has its label is left
   abbrev pub judgesFrom : ℕ
   judgesFrom = K * K * 2 ^ (3 * K)
 
@@ -91,6 +97,7 @@ module _ (K : ℕ) where
     negative = w / 2 ^ (2 * K) % 2 ^ K;
     label = w / 2 ^ (3 * K) % K;
     after = w / 2 ^ (3 * K) / K % K;
+    leaves = w / (2 * judgesFrom);
   }
 
   -- what a word makes of a triple: it is that of a rule judged at once, or stands for a command

@@ -1,11 +1,10 @@
-// Several commands on one row: relabels, connects and unions with a rule, one after the other on each triple; the subsets are put in order once. A rule
-// with the connects and the relabel behind it goes through the row once.
+// Several commands on one row: relabels, connects and unions with a rule, one after the other on each triple; the subsets are put in order once. A word
+// stands for a command, or for a rule with the connects and the relabel behind it.
 use expression::Command;
 use expression::Kind;
 ghost use mathlib.Core.Path.{_≡_};
-ghost use mathlib.Core.Bool.{_||_};
-ghost use mathlib.Core.List.{List, _∷_, map};
-ghost use Prim.Native.Nat.{ℕ, _+_, _*_, _≤_, _<_};
+ghost use mathlib.Core.List.{_∷_, map};
+ghost use Prim.Native.Nat.{_+_, _*_, _≤_, _<_};
 ghost use lib.Bits.{bitOr};
 ghost use lib.ListN.{length, take, getD};
 ghost use Rattle.lists.specs.Sorted.{setOf};
@@ -13,9 +12,9 @@ ghost use Rattle.labels.specs.Labels.{labelCount};
 ghost use Rattle.labels.specs.Sets.{without};
 ghost use Rattle.expression.specs.declared.Command.the-variants.{Connect};
 ghost use Rattle.expression.specs.Commands.{Suits};
-ghost use Rattle.tables.specs.Triples.{markU, settles};
+ghost use Rattle.tables.specs.Triples.{markU};
 ghost use Rattle.candidates.specs.Candidates.{pairOf, Readable};
-ghost use Rattle.batches.specs.Batches.{Joins, commandOf, commandsOf, stepTriple, step, steps, isMet, Fits, judgesFrom, judgeOf, judgeTriple, wordTriple, wordSteps, wordsPair};
+ghost use Rattle.batches.specs.Batches.{Joins, commandOf, stepTriple, isMet, Fits, settled, judgeOf, judgeTriple, wordTriple, wordSteps, wordsPair};
 
 // labels::LABELS at the width of a word.
 const LABELS: u32 = labels::LABELS as u32;
@@ -23,31 +22,36 @@ const LABELS: u32 = labels::LABELS as u32;
 // How many words a batch has at most.
 pub const BATCH_LIMIT: usize = 64;
 
-// Where, in the word of a rule judged at once, the labels of negative atoms begin, and where its own labels.
-const NEGATIVES: u32 = 1 << (2 * LABELS);
+// Where the labels of negative atoms begin in the word of a rule judged at once.
+pub const NEGATIVES: u32 = 1 << (2 * LABELS);
 
-const RULES: u32 = 1 << (3 * LABELS);
+// Where its own labels begin.
+pub const RULES: u32 = 1 << (3 * LABELS);
 
 // The first such word.
-const JUDGES: u32 = LABELS * LABELS * RULES;
+pub const JUDGES: u32 = LABELS * LABELS * RULES;
+
+// The first one of a rule that leaves what has its label.
+const LEAVING: u32 = 2 * JUDGES;
 
 // A rule with atoms put into it, judged at once: the marks of a triple that meet it, the labels of negative atoms, which meet it by the interpretation's
-// own T; its label, and the one it is given then.
+// own T; its label, and the one it is given then. Where `leaves` is 1 what has its label is left to a later word.
 pub struct Judge {
     pub marks: u32,
     pub negative: u32,
     pub label: u32,
     pub after: u32,
+    pub leaves: u32,
 }
 
-// What commands leave of a row: its own triple, and how many subsets there are.
+// What words leave of a row: its own triple, and how many subsets there are.
 pub struct Left {
     pub own: u32,
     pub count: usize,
 }
 
 // The command that a word stands for.
-fn command_of(w: u32) -> Command
+pub fn command_of(w: u32) -> Command
     ensures { λ c. ⌜ c ≡ commandOf labelCount w ⌝ }
 {
     let j = w % LABELS;
@@ -131,7 +135,7 @@ fn step_words(run: &mut [u32], c: Command, q: u32)
 }
 
 // The rule that a word stands for.
-fn judge_of(w: u32) -> Judge
+pub fn judge_of(w: u32) -> Judge
     ensures { λ j. ⌜ (j ≡ judgeOf labelCount w) × Fits labelCount j ⌝ }
 {
     Judge {
@@ -139,15 +143,8 @@ fn judge_of(w: u32) -> Judge
         negative: w / NEGATIVES % (1 << LABELS),
         label: w / RULES % LABELS,
         after: w / RULES / LABELS % LABELS,
+        leaves: w / LEAVING,
     }
-}
-
-// Its word.
-fn judge_word(j: Judge) -> u32
-    requires { ⌜ Fits labelCount j ⌝ }
-    ensures { λ w. ⌜ (judgesFrom labelCount ≤ w) × (judgeOf labelCount w ≡ j) ⌝ }
-{
-    ((LABELS + j.after) * LABELS + j.label) * RULES + j.negative * NEGATIVES + j.marks
 }
 
 // Whether the rule is met. Negative atoms count by the interpretation's own triple q, for the subsets too.
@@ -169,16 +166,31 @@ fn without_rule(g: u32, r: u32) -> u32
     (r | m) - m
 }
 
+// Its label is out of U if it is met, else in U, and is relabelled then.
+fn settled(j: Judge, q: u32, r: u32, met: bool) -> u32
+    requires { ⌜ Fits labelCount j ⌝ }
+    ensures { λ s. ⌜ s ≡ settled labelCount (j .label) (j .after) met r ⌝ }
+{
+    let c = Command::Relabel(j.label, j.after);
+    if met {
+        return candidates::map_triple(c, q, without_rule(j.label, r));
+    }
+    candidates::map_triple(c, q, with_rule(j.label, r))
+}
+
 // What the rule makes of a triple r, where q is the interpretation's own.
 fn judge_triple(j: Judge, q: u32, r: u32) -> u32
     requires { ⌜ Fits labelCount j ⌝ }
     ensures { λ s. ⌜ s ≡ judgeTriple labelCount j q r ⌝ }
 {
-    let c = Command::Relabel(j.label, j.after);
-    if is_met(j, q, r) {
-        return candidates::map_triple(c, q, without_rule(j.label, r));
+    let met = is_met(j, q, r);
+    if j.leaves == 0 {
+        return settled(j, q, r, met);
     }
-    candidates::map_triple(c, q, with_rule(j.label, r))
+    if met {
+        return r;
+    }
+    with_rule(j.after, r)
 }
 
 // Each triple as the rule makes it.
@@ -255,115 +267,4 @@ pub fn batch_row(row: &mut [u32], src: &[u32], code: &[u32]) -> usize
     row[0] = left.own;
     row[1] = left.count as u32;
     left.count
-}
-
-// The rule with atoms of label i put into it.
-fn with_atoms(j: Judge, k: Kind, i: u32) -> Judge
-    requires { ⌜ Fits labelCount j × (i < labelCount) ⌝ }
-    ensures { λ x. ⌜ Fits labelCount x × (x .label ≡ j .label) × (x .after ≡ j .after) × ((q r : ℕ) → isMet x q r ≡ (isMet j q r || settles labelCount k i q r)) ⌝ }
-{
-    match k {
-        Kind::Head => Judge {
-            marks: j.marks | (1 << i),
-            negative: j.negative,
-            label: j.label,
-            after: j.after,
-        },
-        Kind::Positive => Judge {
-            marks: j.marks | (1 << (LABELS + i)),
-            negative: j.negative,
-            label: j.label,
-            after: j.after,
-        },
-        Kind::Negative => Judge {
-            marks: j.marks,
-            negative: j.negative | (1 << i),
-            label: j.label,
-            after: j.after,
-        },
-    }
-}
-
-// The word that does what a rule's word and then the command do, if it is of that rule; else 0. Only a rule that keeps its label can go on.
-fn joined(w: u32, c: Command) -> u32
-    requires { ⌜ Suits labelCount c ⌝ }
-    ensures { λ s. ⌜ (0 < s → (q r : ℕ) → wordTriple labelCount s q r ≡ stepTriple labelCount c (wordTriple labelCount w q q) (wordTriple labelCount w q r)) ⌝ }
-{
-    if w < JUDGES {
-        return 0;
-    }
-    let j = judge_of(w);
-    if j.label != j.after {
-        return 0;
-    }
-    match c {
-        Command::Connect(k, i, g) => {
-            if g != j.label {
-                return 0;
-            }
-            judge_word(with_atoms(j, k, i))
-        }
-        Command::Relabel(g, h) => {
-            if g != j.label {
-                return 0;
-            }
-            judge_word(Judge {
-                marks: j.marks,
-                negative: j.negative,
-                label: g,
-                after: h,
-            })
-        }
-        Command::Rule(_) => 0,
-        Command::Atom(_) => 0,
-        Command::Union => 0,
-    }
-}
-
-// The word that does what the command of a word does. A rule's is of a rule judged with no atoms yet; words above the commands' all stand for connects.
-fn alone(w: u32) -> u32
-    ensures { λ s. ⌜ ((q r : ℕ) → wordTriple labelCount s q r ≡ stepTriple labelCount (commandOf labelCount w) q r) ⌝ }
-{
-    if w < LABELS {
-        return judge_word(Judge {
-            marks: 0,
-            negative: 0,
-            label: w,
-            after: w,
-        });
-    }
-    if w < JUDGES {
-        return w;
-    }
-    4 * LABELS * LABELS + w % (LABELS * LABELS)
-}
-
-// The command of a word comes behind the first m words of code. The answer is how many they are then.
-fn put_word(code: &mut [u32], m: usize, w: u32) -> usize
-    requires { ⌜ m < length (now code) ⌝ }
-    ensures { λ r. ⌜ (r ≤ m + 1) × ((x : List ℕ) → wordSteps labelCount (take r (now (code .exit))) x ≡ step labelCount (commandOf labelCount w) (wordSteps labelCount (take m (now (code .entry))) x)) ⌝ }
-{
-    if 0 < m {
-        let s = joined(code[m - 1], command_of(w));
-        if 0 < s {
-            code[m - 1] = s;
-            return m;
-        }
-    }
-    code[m] = alone(w);
-    m + 1
-}
-
-// Words for the commands of ops, no more than they are. The answer is how many.
-pub fn fuse(code: &mut [u32], ops: &[u32]) -> usize
-    requires { ⌜ length (now ops) ≤ length (now code) ⌝ }
-    ensures { λ r. ⌜ (r ≤ length (now (code .exit))) × ((x : List ℕ) → wordSteps labelCount (take r (now (code .exit))) x ≡ steps labelCount (commandsOf (now (ops .entry))) x) ⌝ }
-{
-    let mut m = 0;
-    let mut k = 0;
-    while k < ops.len() {
-        m = put_word(code, m, ops[k]);
-        k += 1;
-    }
-    m
 }

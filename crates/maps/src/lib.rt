@@ -94,7 +94,7 @@ fn map_fused(
     requires { ⌜ (part to (p * w) (now ws) ≡ zeros (p * w)) × (p ≤ length (now index)) × Kept carry p 0 (now vals) ⌝ }
     ensures { λ r. ⌜ (r ≤ p) × Finished carry w p a (map (batched (commandsOf (now (ops .entry)))) (entriesAt carry w p a n (now (old .entry)) (now (ws .entry)))) r (now (ws .entry)) (now (ws .entry)) (now (ws .exit)) (now (vals .exit)) ⌝ }
 {
-    let m = batches::fuse(code, ops);
+    let m = fusing::fuse(code, ops);
     let r = map_all(ws, row, index, vals, old, carry, w, p, a, n, to, &code[..m]);
     making::settle(ws, row, index, w, p, r, n, a, to);
     r

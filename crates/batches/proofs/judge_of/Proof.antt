@@ -11,7 +11,7 @@ rem-t5 c = search needs
 
 returns : tie.Need-returns
 unfolding judgeOf
-returns c = (refl, (omega arith, omega arith, omega arith, omega arith))
+returns c = (refl, (omega arith, omega arith, omega arith, omega arith, omega (arith, c .fits .w)))
 
 pub judge-of-spec : {M : Type 1} → statement M
 judge-of-spec = tie.close (tie.spec rem-t5 returns)

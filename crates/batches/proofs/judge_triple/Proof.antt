@@ -1,6 +1,6 @@
--- `batches::judge_triple`: by the test.
+-- `batches::judge_triple`: one test after the other.
 use Rattle.labels.specs.Labels.{labelCount}
-use Rattle.batches.proofs.Words.{met-rule, unmet-rule, suits-relabel}
+use Rattle.batches.proofs.Words.{label-settled, label-left}
 use borrow.Author.Needs.{needs}
 use Rattle.batches.proofs.judge_triple.Statement.{statement}
 use Rattle.batches.proofs.judge_triple.Tie as tie
@@ -8,32 +8,22 @@ use Rattle.batches.proofs.judge_triple.Tie as tie
 is-met-requires : tie.Need-is-met-requires
 is-met-requires c κs = search needs
 
-without-rule-requires : tie.Need-without-rule-requires
-without-rule-requires c κs = search needs
-
-map-triple-requires : tie.Need-map-triple-requires
-map-triple-requires c κs = let s = c .before .before .before in suits-relabel labelCount _ _ (s .pre .2) (s .pre .3)
+settled-requires : tie.Need-settled-requires
+settled-requires c κs = search needs
 
 returns : tie.Need-returns
-returns c = met-rule labelCount _ _ _ _ (c .before .before .before .is-met .ensures) _ _ (c .map-triple .ensures) (c .before .before .if1 .taken) (c .before .without-rule .ensures)
+returns c = label-settled labelCount _ _ _ _ (c .before .before .before .is-met .ensures) _ (c .before .if1 .taken) (c .settled .ensures)
+
+returns-2 : tie.Need-returns-2
+returns-2 c = let k = c .before in label-left labelCount _ _ _ _ (k .before .before .is-met .ensures) _ (k .if1 .left) (rw (c .if2 .taken))
 
 with-rule-requires : tie.Need-with-rule-requires
 with-rule-requires c κs = search needs
 
-map-triple-requires-2 : tie.Need-map-triple-requires-2
-map-triple-requires-2 c κs = let s = c .before .before .before in suits-relabel labelCount _ _ (s .pre .2) (s .pre .3)
-
-returns-2 : tie.Need-returns-2
-returns-2 c = unmet-rule labelCount _ _ _ _ (c .before .before .before .is-met .ensures) _ _ (c .map-triple2 .ensures) (c .before .before .if1 .left) (c .before .with-rule .ensures)
+returns-3 : tie.Need-returns-3
+returns-3 c = let k = c .before .before in label-left labelCount _ _ _ _ (k .before .before .is-met .ensures) _ (k .if1 .left) (rw (c .before .if2 .left) (c .with-rule .ensures))
 
 pub judge-triple-spec : {M : Type 1} → statement M
 judge-triple-spec =
     tie.close
-    (tie.spec
-    is-met-requires
-    without-rule-requires
-    map-triple-requires
-    returns
-    with-rule-requires
-    map-triple-requires-2
-    returns-2)
+    (tie.spec is-met-requires settled-requires returns returns-2 with-rule-requires returns-3)

@@ -6,7 +6,7 @@ use native.Mathlib.Omega.{arith}
 use lib.ListN.{length, drop}
 use Rattle.labels.specs.Labels.{labelCount}
 use Rattle.batches.specs.Batches.{wordSteps}
-use Rattle.batches.proofs.Fusing.{next-word, no-words}
+use Rattle.batches.proofs.Words.{next-word, no-words}
 use borrow.Author.Needs.{needs}
 use Rattle.batches.proofs.step_all.Statement.{statement}
 use Rattle.batches.proofs.step_all.Tie as tie

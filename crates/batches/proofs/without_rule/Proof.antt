@@ -2,8 +2,8 @@
 use Prim.Native.Nat.{_+_, _*_}
 use native.Mathlib.Omega.{arith}
 use Rattle.labels.specs.Labels.{labelCount}
-use Rattle.batches.proofs.Judging.{taken-out}
-use Rattle.batches.proofs.Words.{mark-is, mark-within}
+use Rattle.batches.proofs.Steps.{mark-is}
+use Rattle.batches.proofs.Words.{taken-out, mark-within}
 use borrow.Author.Needs.{needs}
 use Rattle.batches.proofs.without_rule.Statement.{statement}
 use Rattle.batches.proofs.without_rule.Tie as tie

@@ -1,9 +1,10 @@
--- `batches::alone`: by the word's size.
+-- `fusing::alone`: by the word's size.
 use native.Mathlib.Omega.{arith}
-use Rattle.batches.proofs.Words.{by-command, rule-alone, large-alone}
+use Rattle.batches.proofs.Words.{by-command}
+use Rattle.fusing.proofs.Words.{rule-alone, large-alone}
 use borrow.Author.Needs.{needs}
-use Rattle.batches.proofs.alone.Statement.{statement}
-use Rattle.batches.proofs.alone.Tie as tie
+use Rattle.fusing.proofs.alone.Statement.{statement}
+use Rattle.fusing.proofs.alone.Tie as tie
 
 judge-word-requires : tie.Need-judge-word-requires
 judge-word-requires c κs = search needs

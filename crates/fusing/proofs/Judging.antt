@@ -1,7 +1,7 @@
 -- A rule judged at once does what the rule, its connects and a relabel of it do one after the other. Assumes nothing.
 use mathlib.Core.Path.{_≡_, refl, sym, ap, ap₂, _∙_}
 use mathlib.Core.Bool.{Bool, true, false, cond, not, _&&_, _||_, true≢false, and-false, and-true, or-true, or-false}
-use Prim.Native.Nat.{ℕ, _+_, _-_, _*_, _^_, _≤_, _<_}
+use Prim.Native.Nat.{ℕ, _+_, _*_, _^_, _<_}
 use native.Mathlib.Omega.{arith}
 use lib.Bits.{bitAnd, bitOr}
 use lib.Dec.{eqb}
@@ -12,37 +12,19 @@ use Rattle.labels.proofs.Sets.{has-none, has-none-zero, has-or, has-and, has-po
 use Rattle.expression.specs.declared.Kind.{Kind}
 use Rattle.expression.specs.declared.Kind.the-variants.{Head, Positive, Negative}
 use Rattle.tables.specs.Triples.{markU, relabelTriple, settles, connectTriple}
 use Rattle.batches.specs.declared.Judge.{Judge}
-use Rattle.batches.specs.Batches.{isMet, judgeTriple}
+use Rattle.batches.specs.Batches.{isMet, settled, judgeTriple}
+use Rattle.batches.proofs.Words.{without-or}
 
 -- ---- sets
 
--- one number more, and a set without it
-pub without-or : (u r : ℕ) → without u (bitOr r (2 ^ u)) ≡ without u r
-without-or u r = set-ext (without u (bitOr r (2 ^ u))) (without u r) (λ m. has-without u m (bitOr r (2 ^ u)) ∙ ap (λ b. b && not (eqb m u)) (has-or m r (2 ^ u) ∙ ap (λ b. has m r || b) (has-pow m u)) ∙ step (has m r) (eqb m u) ∙ sym (has-without u m r))
-  where
-    step : (a b : Bool) → ((a || b) && not b) ≡ (a && not b)
-    step true b = refl
-    step false true = refl
-    step false false = refl
+-- taken out, it is not in the set
+pub taken : (n a : ℕ) → has n (without n a) ≡ false
+taken n a = has-without n n a ∙ ap (λ b. has n a && not b) (eq-eqb n n refl) ∙ and-false (has n a)
 
-pub with-has : (u r : ℕ) → has u (bitOr r (2 ^ u)) ≡ true
-with-has u r = has-or u r (2 ^ u) ∙ ap (λ b. has u r || b) (has-pow u u ∙ eq-eqb u u refl) ∙ or-true (has u r)
-
--- taken out of the set that surely has it
-pub taken-out : (u r : ℕ) → bitOr r (2 ^ u) - 2 ^ u ≡ without u r
+pub absent-out : (n a : ℕ) → has n a ≡ false → without n a ≡ a
 unfolding without
-taken-out u r = go (with-has u r) ∙ without-or u r
-  where
-    go : has u (bitOr r (2 ^ u)) ≡ true → bitOr r (2 ^ u) - 2 ^ u ≡ without u (bitOr r (2 ^ u))
-    go e = rw e
-
-without-twice : (u r : ℕ) → without u (without u r) ≡ without u r
-unfolding without
-without-twice u r = go (has-without u u r ∙ ap (λ b. has u r && not b) (eq-eqb u u refl) ∙ and-false (has u r))
-  where
-    go : has u (without u r) ≡ false → without u (without u r) ≡ without u r
-    go e = ap (λ b. cond b (without u r - 2 ^ u) (without u r)) e
+absent-out n a e = rw e
 
 replace-same : (m a : ℕ) → replace m m a ≡ a
 replace-same m a = set-ext (replace m m a) a (λ k. has-replace m m k a ∙ step k (eqb k m) refl)
@@ -99,7 +81,7 @@ module _ (b : Bool) (u r : ℕ) where
   marked-more d = go b d
     where
       go : (b d : Bool) → cond d (without u (cond b (without u r) (bitOr r (2 ^ u)))) (cond b (without u r) (bitOr r (2 ^ u))) ≡ cond (b || d) (without u r) (bitOr r (2 ^ u))
-      go true true = without-twice u r
+      go true true = absent-out u (without u r) (taken u r)
       go true false = refl
       go false true = without-or u r
       go false false = refl
@@ -109,13 +91,15 @@ module _ (K : ℕ) where
   unfolding relabelTriple
   relabel-same g r = replace-same g _ ∙ replace-same (K + g) _ ∙ replace-same (2 * K + g) r
 
-  pub judged : (j : Judge) (g h q r : ℕ) → j .label ≡ g → j .after ≡ h → judgeTriple K j q r ≡ relabelTriple K g h (marked (isMet j q r) (2 * K + g) r)
-  unfolding judgeTriple markU
-  judged j g h q r e f = ap₂ (λ a b. relabelTriple K a b (marked (isMet j q r) (2 * K + a) r)) e f
+  pub judged : (j : Judge) (g h q r : ℕ) → j .label ≡ g → j .after ≡ h → j .leaves ≡ 0 → judgeTriple K j q r ≡ relabelTriple K g h (marked (isMet j q r) (2 * K + g) r)
+  unfolding judgeTriple settled markU
+  judged j g h q r e f z =
+      ap (λ (b : Bool). cond b (settled K (j .label) (j .after) (isMet j q r) r) (cond (isMet j q r) r (bitOr r (markU K (j .after))))) (eq-eqb (j .leaves) 0 z)
+      ∙ ap₂ (λ a b. relabelTriple K a b (marked (isMet j q r) (2 * K + a) r)) e f
 
   -- a rule that keeps its label
-  pub keeps-label : (j : Judge) (g q r : ℕ) → j .label ≡ g → j .after ≡ g → judgeTriple K j q r ≡ marked (isMet j q r) (2 * K + g) r
-  keeps-label j g q r e f = judged j g g q r e f ∙ relabel-same g (marked (isMet j q r) (2 * K + g) r)
+  pub keeps-label : (j : Judge) (g q r : ℕ) → j .label ≡ g → j .after ≡ g → j .leaves ≡ 0 → judgeTriple K j q r ≡ marked (isMet j q r) (2 * K + g) r
+  keeps-label j g q r e f z = judged j g g q r e f z ∙ relabel-same g (marked (isMet j q r) (2 * K + g) r)
 
   settles-same : (k : Kind) (i g : ℕ) → i < K → (b d : Bool) (q r : ℕ) → settles K k i (marked b (2 * K + g) q) (marked d (2 * K + g) r) ≡ settles K k i q r
   unfolding settles
@@ -123,25 +107,25 @@ module _ (K : ℕ) where
   settles-same Positive i g l b d q r = others-stay d (2 * K + g) r (K + i) (λ e. omega arith)
   settles-same Negative i g l b d q r = others-stay b (2 * K + g) q i (λ e. omega arith)
 
-  module _ (j x : Judge) (g : ℕ) (e : j .label ≡ g) (f : j .after ≡ g) (q r : ℕ) where
+  module _ (j x : Judge) (g : ℕ) (e : j .label ≡ g) (f : j .after ≡ g) (z : j .leaves ≡ 0) (y : x .leaves ≡ 0) (q r : ℕ) where
     -- a connect of its label, after it
     pub connect-more : (k : Kind) (i : ℕ) → i < K → x .label ≡ g → x .after ≡ g → isMet x q r ≡ (isMet j q r || settles K k i q r)
         → judgeTriple K x q r ≡ connectTriple K k i g (judgeTriple K j q q) (judgeTriple K j q r)
     unfolding connectTriple
     connect-more k i l ex fx m =
-        keeps-label x g q r ex fx
+        keeps-label x g q r ex fx y
         ∙ ap (λ b. marked b (2 * K + g) r) m
         ∙ sym (marked-more (isMet j q r) (2 * K + g) r (settles K k i q r))
         ∙ ap (λ b. cond b (without (2 * K + g) (marked (isMet j q r) (2 * K + g) r)) (marked (isMet j q r) (2 * K + g) r)) (sym (settles-same k i g l (isMet j q q) (isMet j q r) q r))
-        ∙ ap₂ (λ a c. cond (settles K k i a c) (without (2 * K + g) c) c) (sym (keeps-label j g q q e f)) (sym (keeps-label j g q r e f))
+        ∙ ap₂ (λ a c. cond (settles K k i a c) (without (2 * K + g) c) c) (sym (keeps-label j g q q e f z)) (sym (keeps-label j g q r e f z))
 
     -- a relabel of its label, after it
     pub relabel-more : (h : ℕ) → x .label ≡ g → x .after ≡ h → isMet x q r ≡ isMet j q r
         → judgeTriple K x q r ≡ relabelTriple K g h (judgeTriple K j q r)
     relabel-more h ex fx m =
-        judged x g h q r ex fx ∙ ap (λ b. relabelTriple K g h (marked b (2 * K + g) r)) m ∙ ap (relabelTriple K g h) (sym (keeps-label j g q r e f))
+        judged x g h q r ex fx y ∙ ap (λ b. relabelTriple K g h (marked b (2 * K + g) r)) m ∙ ap (relabelTriple K g h) (sym (keeps-label j g q r e f z))
 
   -- a rule with no atoms
-  pub no-atoms : (j : Judge) (g q r : ℕ) → j .label ≡ g → j .after ≡ g → isMet j q r ≡ false → judgeTriple K j q r ≡ bitOr r (markU K g)
+  pub no-atoms : (j : Judge) (g q r : ℕ) → j .label ≡ g → j .after ≡ g → j .leaves ≡ 0 → isMet j q r ≡ false → judgeTriple K j q r ≡ bitOr r (markU K g)
   unfolding markU
-  no-atoms j g q r e f m = keeps-label j g q r e f ∙ ap (λ b. marked b (2 * K + g) r) m
+  no-atoms j g q r e f z m = keeps-label j g q r e f z ∙ ap (λ b. marked b (2 * K + g) r) m

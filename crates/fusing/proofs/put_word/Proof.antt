@@ -1,16 +1,16 @@
--- `batches::put_word`: in place of the last word, or behind it.
+-- `fusing::put_word`: in place of the last word, or behind it.
 use mathlib.Core.Path.{sym, ap, _∙_, subst}
 use native.Mathlib.Omega.{arith}
 use lib.ListN.{take}
 use Rattle.labels.specs.Labels.{labelCount}
 use Rattle.expression.specs.declared.Command.{Command}
 use Rattle.expression.specs.Commands.{Suits}
 use Rattle.batches.specs.Batches.{commandOf, step, wordSteps}
 use Rattle.batches.proofs.Steps.{suits-word}
-use Rattle.batches.proofs.Fusing.{put-last, put-behind}
+use Rattle.fusing.proofs.Fusing.{put-last, put-behind}
 use borrow.Author.Needs.{needs}
-use Rattle.batches.proofs.put_word.Statement.{statement}
-use Rattle.batches.proofs.put_word.Tie as tie
+use Rattle.fusing.proofs.put_word.Statement.{statement}
+use Rattle.fusing.proofs.put_word.Tie as tie
 
 sub-joined : tie.Need-sub-joined
 sub-joined c = search needs

@@ -1,29 +1,16 @@
--- Words one after the other on a row, and words put behind others for commands. Assumes nothing.
+-- Words put behind others, or in place of them, for commands. Assumes nothing.
 use mathlib.Core.Path.{_≡_, refl, sym, ap, ap₂, _∙_}
 use mathlib.Core.List.{List, [], _∷_, _++_, map}
 use Prim.Native.Nat.{ℕ, suc, _+_, _-_, _≤_, _<_}
 use native.Mathlib.Numerals.{add-one}
 use native.Mathlib.Omega.{arith}
-use lib.ListN.{length, take, drop, set, getD, drop-of-length-le}
-use lib.Seq.{drop-cons, take-suc, take-suc-set}
+use lib.ListN.{length, take, drop, set, getD, drop-of-length-le, length-set}
+use lib.Seq.{drop-cons, take-suc, take-suc-set, getD-set-other}
 use Rattle.labels.specs.Labels.{labelCount}
 use Rattle.expression.specs.declared.Command.{Command}
 use Rattle.tables.specs.Definitions.{ownTriple, subsets}
 use Rattle.batches.specs.Batches.{commandOf, commandsOf, stepTriple, step, steps, wordTriple, wordStep, wordSteps}
-
--- ---- words on a row
-
--- the next word of those left
-pub next-word : (goal code : List ℕ) (k : ℕ) → k < length code → (own : ℕ) (run : List ℕ) → wordSteps labelCount (drop k code) (own ∷ run) ≡ goal
-    → (own' : ℕ) (run' : List ℕ) → own' ≡ wordTriple labelCount (getD code k 0) own own → run' ≡ map (wordTriple labelCount (getD code k 0) own) run
-    → wordSteps labelCount (drop (k + 1) code) (own' ∷ run') ≡ goal
-unfolding wordSteps wordStep
-next-word goal code k l own run h own' run' eo er = rw (eo, er, add-one k) (rw (drop-cons code k 0 l) at h)
-
--- none is left
-pub no-words : (code : List ℕ) (k : ℕ) → length code ≤ k → (x goal : List ℕ) → wordSteps labelCount (drop k code) x ≡ goal → x ≡ goal
-unfolding wordSteps
-no-words code k l x goal h = rw (drop-of-length-le code {i = k} l) at h
+use Rattle.batches.proofs.Words.{map-same}
 
 -- ---- a word for a command
 
@@ -40,11 +27,7 @@ module _ (s : ℕ) (c : Command) where
   as-command : ((q r : ℕ) → wordTriple labelCount s q r ≡ stepTriple labelCount c q r) → (x : List ℕ) → wordStep labelCount s x ≡ step labelCount c x
   unfolding wordStep step
   as-command e x =
-      ap₂ {C = List ℕ} (λ y m. y ∷ m) (e (ownTriple x) (ownTriple x)) (map-two (stepTriple labelCount c (ownTriple x)) (λ r. r) (wordTriple labelCount s (ownTriple x)) (e (ownTriple x)) (subsets x) ∙ ap (map (stepTriple labelCount c (ownTriple x))) (map-self (subsets x)))
-    where
-      map-self : (l : List ℕ) → map (λ (r : ℕ). r) l ≡ l
-      map-self [] = refl
-      map-self (y ∷ l) = ap (λ (m : List ℕ). y ∷ m) (map-self l)
+      ap₂ {C = List ℕ} (λ y m. y ∷ m) (e (ownTriple x) (ownTriple x)) (map-same (wordTriple labelCount s (ownTriple x)) (stepTriple labelCount c (ownTriple x)) (e (ownTriple x)) (subsets x))
 
   as-both : (w : ℕ) → ((q r : ℕ) → wordTriple labelCount s q r ≡ stepTriple labelCount c (wordTriple labelCount w q q) (wordTriple labelCount w q r)) → (x : List ℕ)
       → wordStep labelCount s x ≡ step labelCount c (wordStep labelCount w x)
@@ -73,6 +56,44 @@ module _ (code : List ℕ) (m s : ℕ) (c : Command) (x : List ℕ) where
       ∙ ap (λ (t : List ℕ). wordSteps labelCount t x) (take-suc-set code m s l)
       ∙ more-words (take m code) s x
       ∙ as-command s c e (wordSteps labelCount (take m code) x)
+
+-- in place of the last word but one
+module _ (code : List ℕ) (m s : ℕ) (x : List ℕ) (l : 2 ≤ m) (k : m ≤ length code) where
+  abbrev first : ℕ
+  first = getD code (m - 2) 0
+
+  abbrev last : ℕ
+  last = getD code (m - 1) 0
+
+  two-words : (c : List ℕ) (t : ℕ) → length c ≡ length code → take (suc (m - 2)) c ≡ take (m - 2) code ++ (t ∷ []) → getD c (m - 1) 0 ≡ last
+      → wordSteps labelCount (take m c) x ≡ wordStep labelCount last (wordStep labelCount t (wordSteps labelCount (take (m - 2) code) x))
+  two-words c t n e f =
+      let a : m ≡ suc (m - 1) = omega arith in
+      let b : m - 1 ≡ suc (m - 2) = omega arith in
+      let i : m - 1 < length c = omega (arith, n) in
+      ap (λ (j : ℕ). wordSteps labelCount (take j c) x) a
+      ∙ ap (λ (y : List ℕ). wordSteps labelCount y x) (take-suc c (m - 1) 0 i)
+      ∙ more-words (take (m - 1) c) (getD c (m - 1) 0) x
+      ∙ ap₂ (λ (v : ℕ) (y : List ℕ). wordStep labelCount v (wordSteps labelCount y x)) f (ap (λ (j : ℕ). take j c) b ∙ e)
+      ∙ ap (wordStep labelCount last) (more-words (take (m - 2) code) t x)
+
+  twice-same : ((q r : ℕ) → wordTriple labelCount last (wordTriple labelCount s q q) (wordTriple labelCount s q r) ≡ wordTriple labelCount last (wordTriple labelCount first q q) (wordTriple labelCount first q r))
+      → (y : List ℕ) → wordStep labelCount last (wordStep labelCount s y) ≡ wordStep labelCount last (wordStep labelCount first y)
+  unfolding wordStep
+  twice-same e y = ap₂ {C = List ℕ} (λ u v. u ∷ v) (e (ownTriple y) (ownTriple y)) (each (subsets y))
+    where
+      each : (t : List ℕ) → map (wordTriple labelCount last (wordTriple labelCount s (ownTriple y) (ownTriple y))) (map (wordTriple labelCount s (ownTriple y)) t)
+          ≡ map (wordTriple labelCount last (wordTriple labelCount first (ownTriple y) (ownTriple y))) (map (wordTriple labelCount first (ownTriple y)) t)
+      each [] = refl
+      each (z ∷ t) = ap₂ {C = List ℕ} (λ u v. u ∷ v) (e (ownTriple y) z) (each t)
+
+  pub put-first : ((q r : ℕ) → wordTriple labelCount last (wordTriple labelCount s q q) (wordTriple labelCount s q r) ≡ wordTriple labelCount last (wordTriple labelCount first q q) (wordTriple labelCount first q r))
+      → wordSteps labelCount (take m (set code (m - 2) s)) x ≡ wordSteps labelCount (take m code) x
+  put-first e =
+      let i : m - 2 < length code = omega arith in
+      two-words (set code (m - 2) s) s (length-set code (m - 2) s) (take-suc-set code (m - 2) s i) (getD-set-other code (m - 2) (m - 1) s 0 (λ z. omega arith))
+      ∙ twice-same e (wordSteps labelCount (take (m - 2) code) x)
+      ∙ sym (two-words code first refl (take-suc code (m - 2) 0 i) refl)
 
 -- ---- the commands left
 

@@ -1,0 +1,4 @@
+pub mod Judging
+pub mod Leaving
+pub mod Words
+pub mod Fusing

@@ -1,0 +1,220 @@
+// Words for commands: a rule, the connects that put atoms into it and the relabel behind them become one word, so that a row is gone through once for
+// all of them.
+use batches::JUDGES;
+use batches::Judge;
+use batches::NEGATIVES;
+use batches::RULES;
+use batches::command_of;
+use batches::judge_of;
+use expression::Command;
+use expression::Kind;
+ghost use mathlib.Core.Path.{_≡_};
+ghost use mathlib.Core.Bool.{_||_};
+ghost use mathlib.Core.List.{List};
+ghost use Prim.Native.Nat.{ℕ, _+_, _≤_, _<_};
+ghost use lib.ListN.{length, take};
+ghost use Rattle.labels.specs.Labels.{labelCount};
+ghost use Rattle.labels.specs.Sets.{has};
+ghost use Rattle.expression.specs.Commands.{Suits};
+ghost use Rattle.tables.specs.Triples.{settles};
+ghost use Rattle.batches.specs.Batches.{commandOf, commandsOf, stepTriple, step, steps, isMet, Fits, judgesFrom, judgeOf, wordTriple, wordSteps};
+
+// labels::LABELS at the width of a word.
+const LABELS: u32 = labels::LABELS as u32;
+
+// The word of a rule judged at once.
+fn judge_word(j: Judge) -> u32
+    requires { ⌜ Fits labelCount j ⌝ }
+    ensures { λ w. ⌜ (judgesFrom labelCount ≤ w) × (judgeOf labelCount w ≡ j) ⌝ }
+{
+    ((LABELS + j.leaves * LABELS + j.after) * LABELS + j.label) * RULES
+        + j.negative * NEGATIVES
+        + j.marks
+}
+
+// The rule with atoms of label i put into it.
+fn with_atoms(j: Judge, k: Kind, i: u32) -> Judge
+    requires { ⌜ Fits labelCount j × (i < labelCount) ⌝ }
+    ensures { λ x. ⌜ Fits labelCount x × (x .label ≡ j .label) × (x .after ≡ j .after) × (x .leaves ≡ j .leaves) × ((q r : ℕ) → isMet x q r ≡ (isMet j q r || settles labelCount k i q r)) ⌝ }
+{
+    match k {
+        Kind::Head => Judge {
+            marks: j.marks | (1 << i),
+            negative: j.negative,
+            label: j.label,
+            after: j.after,
+            leaves: j.leaves,
+        },
+        Kind::Positive => Judge {
+            marks: j.marks | (1 << (LABELS + i)),
+            negative: j.negative,
+            label: j.label,
+            after: j.after,
+            leaves: j.leaves,
+        },
+        Kind::Negative => Judge {
+            marks: j.marks,
+            negative: j.negative | (1 << i),
+            label: j.label,
+            after: j.after,
+            leaves: j.leaves,
+        },
+    }
+}
+
+// The word that does what a rule's word and then the command do, if it is of that rule; else 0. Only a rule that keeps its label can go on.
+fn joined(w: u32, c: Command) -> u32
+    requires { ⌜ Suits labelCount c ⌝ }
+    ensures { λ s. ⌜ (0 < s → (q r : ℕ) → wordTriple labelCount s q r ≡ stepTriple labelCount c (wordTriple labelCount w q q) (wordTriple labelCount w q r)) ⌝ }
+{
+    if w < JUDGES {
+        return 0;
+    }
+    let j = judge_of(w);
+    if j.label != j.after {
+        return 0;
+    }
+    if j.leaves != 0 {
+        return 0;
+    }
+    match c {
+        Command::Connect(k, i, g) => {
+            if g != j.label {
+                return 0;
+            }
+            judge_word(with_atoms(j, k, i))
+        }
+        Command::Relabel(g, h) => {
+            if g != j.label {
+                return 0;
+            }
+            judge_word(Judge {
+                marks: j.marks,
+                negative: j.negative,
+                label: g,
+                after: h,
+                leaves: 0,
+            })
+        }
+        Command::Rule(_) => 0,
+        Command::Atom(_) => 0,
+        Command::Union => 0,
+    }
+}
+
+// The word that does what the command of a word does. A rule's is of a rule judged with no atoms yet; words above the commands' all stand for connects.
+fn alone(w: u32) -> u32
+    ensures { λ s. ⌜ ((q r : ℕ) → wordTriple labelCount s q r ≡ stepTriple labelCount (commandOf labelCount w) q r) ⌝ }
+{
+    if w < LABELS {
+        return judge_word(Judge {
+            marks: 0,
+            negative: 0,
+            label: w,
+            after: w,
+            leaves: 0,
+        });
+    }
+    if w < JUDGES {
+        return w;
+    }
+    4 * LABELS * LABELS + w % (LABELS * LABELS)
+}
+
+// The command of a word comes behind the first m words of code. The answer is how many they are then.
+fn put_word(code: &mut [u32], m: usize, w: u32) -> usize
+    requires { ⌜ m < length (now code) ⌝ }
+    ensures { λ r. ⌜ (r ≤ m + 1) × ((x : List ℕ) → wordSteps labelCount (take r (now (code .exit))) x ≡ step labelCount (commandOf labelCount w) (wordSteps labelCount (take m (now (code .entry))) x)) ⌝ }
+{
+    if 0 < m {
+        let s = joined(code[m - 1], command_of(w));
+        if 0 < s {
+            code[m - 1] = s;
+            return m;
+        }
+    }
+    code[m] = alone(w);
+    m + 1
+}
+
+// Whether a rule has atoms of label g.
+fn speaks_of(j: Judge, g: u32) -> bool
+    requires { ⌜ g < labelCount ⌝ }
+    ensures { λ b. ⌜ b ≡ (has g (j .marks) || (has (labelCount + g) (j .marks) || has g (j .negative))) ⌝ }
+{
+    if (j.marks >> g) % 2 == 1 {
+        return true;
+    }
+    if (j.marks >> (LABELS + g)) % 2 == 1 {
+        return true;
+    }
+    (j.negative >> g) % 2 == 1
+}
+
+// The word for a in front of b, both words of rules, by which what has the rule's label is left to b; if b is relabelled like a and has no atoms of
+// these labels. Else 0.
+fn lighter(a: u32, b: u32) -> u32
+    ensures { λ s. ⌜ (0 < s → (q r : ℕ) → wordTriple labelCount b (wordTriple labelCount s q q) (wordTriple labelCount s q r) ≡ wordTriple labelCount b (wordTriple labelCount a q q) (wordTriple labelCount a q r)) ⌝ }
+{
+    if a < JUDGES {
+        return 0;
+    }
+    if b < JUDGES {
+        return 0;
+    }
+    let i = judge_of(a);
+    let j = judge_of(b);
+    if i.leaves + j.leaves != 0 {
+        return 0;
+    }
+    if i.label != j.label {
+        return 0;
+    }
+    if i.after != j.after {
+        return 0;
+    }
+    if j.label == j.after {
+        return 0;
+    }
+    if speaks_of(j, j.label) {
+        return 0;
+    }
+    if speaks_of(j, j.after) {
+        return 0;
+    }
+    judge_word(Judge {
+        marks: i.marks,
+        negative: i.negative,
+        label: i.label,
+        after: i.after,
+        leaves: 1,
+    })
+}
+
+// The last but one of m words, lighter where it can be.
+fn lighten(code: &mut [u32], m: usize)
+    requires { ⌜ m ≤ length (now code) ⌝ }
+    ensures { λ _. ⌜ ((x : List ℕ) → wordSteps labelCount (take m (now (code .exit))) x ≡ wordSteps labelCount (take m (now (code .entry))) x) ⌝ }
+{
+    if 2 <= m {
+        let s = lighter(code[m - 2], code[m - 1]);
+        if 0 < s {
+            code[m - 2] = s;
+        }
+    }
+}
+
+// Words for the commands of ops, no more than they are. The answer is how many.
+pub fn fuse(code: &mut [u32], ops: &[u32]) -> usize
+    requires { ⌜ length (now ops) ≤ length (now code) ⌝ }
+    ensures { λ r. ⌜ (r ≤ length (now (code .exit))) × ((x : List ℕ) → wordSteps labelCount (take r (now (code .exit))) x ≡ steps labelCount (commandsOf (now (ops .entry))) x) ⌝ }
+{
+    let mut m = 0;
+    let mut k = 0;
+    while k < ops.len() {
+        m = put_word(code, m, ops[k]);
+        lighten(code, m);
+        k += 1;
+    }
+    m
+}
