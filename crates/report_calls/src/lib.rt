@@ -67,7 +67,7 @@ pub fn report(
     let limit = p as usize;
     let w = g as usize + 2;
     let need = AREAS * (limit * w);
-    reporting::tabulate_here(
+    tabulating::tabulate_here(
         s,
         asked,
         ws,
@@ -105,7 +105,7 @@ pub fn plain_report(
     }
     let limit = p as usize;
     let need = AREAS * (limit * (g as usize + 2));
-    reporting::tabulate_here(
+    tabulating::tabulate_here(
         s,
         asked,
         ws,

@@ -1,11 +1,11 @@
--- `reporting::tabulate_here`: the arrays are long enough for the largest limits, and the counts zero.
+-- `tabulating::tabulate_here`: the arrays are long enough for the largest limits, and the counts zero.
 use mathlib.Core.Path.{refl}
 use borrow.Author.Needs.{needs}
 use native.Mathlib.Omega.{arith}
 use borrow.Author.Needs.{needs}
-use Rattle.reporting.proofs.tabulate_here.Statement.{statement}
-use Rattle.reporting.proofs.tabulate_here.Tie as tie
-use Rattle.reporting.proofs.tabulate_in.Reads as tabulate-in-reads
+use Rattle.tabulating.proofs.tabulate_here.Statement.{statement}
+use Rattle.tabulating.proofs.tabulate_here.Tie as tie
+use Rattle.tabulating.proofs.tabulate_in.Reads as tabulate-in-reads
 
 slice-aggregate-tabulate-in : tie.Need-slice-aggregate-tabulate-in
 slice-aggregate-tabulate-in c = search needs

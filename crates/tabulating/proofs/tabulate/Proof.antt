@@ -1,4 +1,4 @@
--- `reporting::tabulate`: from the cleared words through the walk to the report of its newest table, and to cleared words again.
+-- `tabulating::tabulate`: from the cleared words through the walk to the report of its newest table, and to cleared words again.
 use mathlib.Core.Path.{_≡_, refl, sym, ap, _∙_, subst}
 use mathlib.Core.List.{List, [], map}
 use Prim.Native.Nat.{ℕ, _+_, _*_, _≤_}
@@ -17,13 +17,13 @@ use Rattle.advances.specs.Advances.{Stands}
 use Rattle.walks.specs.Walks.{Reaches}
 use Rattle.reports.specs.Reports.{reportOf}
 use Rattle.advances.proofs.Clear.{behind, stands-clear, all-clear}
 use Rattle.reporting.specs.Reporting.{newestIn, reportAnswer, reportBuffer}
 use borrow.Author.Needs.{needs}
 use native.Mathlib.Omega.{arith}
 use borrow.Author.Needs.{needs}
-use Rattle.reporting.proofs.tabulate.Statement.{statement}
-use Rattle.reporting.proofs.tabulate.Tie as tie
+use Rattle.tabulating.proofs.tabulate.Statement.{statement}
+use Rattle.tabulating.proofs.tabulate.Tie as tie
 use Rattle.reporting.proofs.report_newest.Reads as report-newest-reads
 use Rattle.stacks.proofs.clear_need.Reads as clear-need-reads
 use Rattle.stacks.proofs.clear_tables.Reads as clear-tables-reads
 use Rattle.walks.proofs.walk.Reads as walk-reads

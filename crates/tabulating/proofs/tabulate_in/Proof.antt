@@ -1,12 +1,12 @@
--- `reporting::tabulate_in`: the front of each array is lent.
+-- `tabulating::tabulate_in`: the front of each array is lent.
 use mathlib.Core.Path.{_≡_, refl, sym, _∙_}
 use lib.Seq.{length-take-le}
 use borrow.Author.Needs.{needs}
 use native.Mathlib.Omega.{arith}
 use borrow.Author.Needs.{needs}
-use Rattle.reporting.proofs.tabulate_in.Statement.{statement}
-use Rattle.reporting.proofs.tabulate_in.Tie as tie
-use Rattle.reporting.proofs.tabulate.Reads as tabulate-reads
+use Rattle.tabulating.proofs.tabulate_in.Statement.{statement}
+use Rattle.tabulating.proofs.tabulate_in.Tie as tie
+use Rattle.tabulating.proofs.tabulate.Reads as tabulate-reads
 
 slice-relend-prefix-tabulate : tie.Need-slice-relend-prefix-tabulate
 slice-relend-prefix-tabulate c = search needs
