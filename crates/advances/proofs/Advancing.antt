@@ -16,7 +16,8 @@ use Rattle.entries.specs.Carries.{Entry, Beside}
 use Rattle.workspace.specs.Workspace.{stackCounts, countsOf, Acted}
 use Rattle.stacks.specs.Stacks.{countBelow, Applies, tallied}
 use Rattle.stacks.proofs.Counts.{counts-long, count-newest, count-second, tally-act}
-use Rattle.operations.specs.Operations.{Loaded, Meets}
+use Rattle.operands.specs.Operands.{Loaded}
+use Rattle.operations.specs.Operations.{Meets}
 use Rattle.advances.specs.Advances.{Stands, Advanced}
 
 -- values as many as before

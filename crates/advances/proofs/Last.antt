@@ -14,7 +14,7 @@ use Rattle.entries.proofs.Keeping.{in-rising}
 use Rattle.making.specs.Making.{entriesAt}
 use Rattle.workspace.specs.Workspace.{valuesFrom}
 use Rattle.stacks.specs.Stacks.{countBelow}
-use Rattle.operations.proofs.Loads.{Stands as Operand, newer-stands, stands-rows, stands-few, stands-entries}
+use Rattle.operands.proofs.Loads.{Stands as Operand, newer-stands, stands-rows, stands-few, stands-entries}
 use Rattle.advances.specs.Advances.{Stands}
 use Rattle.advances.proofs.Advancing.{loaded}
 

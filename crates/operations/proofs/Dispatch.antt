@@ -22,7 +22,8 @@ use Rattle.leaves.specs.declared.Tables.the-variants.{Plain, Pairs}
 use Rattle.leaves.specs.Leaves.{algebraOf, tableAlgebra}
 use Rattle.leaf_tables.proofs.Leaves.{atom-operation, rule-operation}
 use Rattle.workspace.specs.Workspace.{Acted}
-use Rattle.operations.specs.Operations.{Acts, Meets, pushed, unitedTable, mappedTable}
+use Rattle.operands.specs.Operands.{Acts, unitedTable}
+use Rattle.operations.specs.Operations.{Meets, pushed, mappedTable}
 
 -- the same stack
 pub acts-as : {carry : Carry} {d w p t n m : ℕ} {f g : List (List Entry) → List (List Entry)} {r : ℕ} {ws vals ws' vals' : List ℕ} (made' : List ℕ) → ((ts : List (List Entry)) → f ts ≡ g ts)

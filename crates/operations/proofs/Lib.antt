@@ -1,5 +1,3 @@
-pub mod Loads
-pub mod Uniting
 pub mod Mapping
 pub mod Pushing
 pub mod Dispatch

@@ -22,8 +22,8 @@ use Rattle.maps.specs.Maps.{batched, batchedTable}
 use Rattle.workspace.specs.Workspace.{pairsOf, valuesFrom, placed, Acted}
 use Rattle.workspace.proofs.Areas.{changed}
 use Rattle.workspace.proofs.Acting.{sound-pairs, acted}
-use Rattle.operations.specs.Operations.{Loaded}
-use Rattle.operations.proofs.Loads.{beside-room, newer-stands, stands-entries}
+use Rattle.operands.specs.Operands.{Loaded}
+use Rattle.operands.proofs.Loads.{beside-room, newer-stands, stands-entries}
 
 -- the candidates of a map
 module _ (cs : List Command) where

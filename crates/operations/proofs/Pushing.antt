@@ -24,8 +24,9 @@ use Rattle.leaves.specs.Leaves.{algebraOf, tableAlgebra}
 use Rattle.workspace.specs.Workspace.{pairsOf, valuesFrom, placed, Acted}
 use Rattle.workspace.proofs.Areas as areas
 use Rattle.workspace.proofs.Acting.{sound-pairs, acted}
-use Rattle.operations.specs.Operations.{Loaded, pushed}
-use Rattle.operations.proofs.Loads.{beside-room}
+use Rattle.operands.specs.Operands.{Loaded}
+use Rattle.operations.specs.Operations.{pushed}
+use Rattle.operands.proofs.Loads.{beside-room}
 
 -- an entry whose pair has a triple, and rising subsets
 abbrev Filled : Entry → Type 0

@@ -16,8 +16,8 @@ use Rattle.entries.specs.Carries.{Entry}
 use Rattle.leaves.specs.declared.Tables.{Tables}
 use Rattle.workspace.specs.Workspace.{pairsOf}
 use Rattle.stacks.specs.Stacks.{countBelow}
-use Rattle.operations.specs.Operations.{Loaded}
-use Rattle.operations.proofs.Loads.{Stands as Operand, below, inside, newer-stands, stands-rows, stands-pairs}
+use Rattle.operands.specs.Operands.{Loaded}
+use Rattle.operands.proofs.Loads.{Stands as Operand, below, inside, newer-stands, stands-rows, stands-pairs}
 use Rattle.advances.specs.Advances.{Stands}
 use Rattle.advances.proofs.Advancing.{loaded}
 use Rattle.reports.specs.Reports.{reportOf}

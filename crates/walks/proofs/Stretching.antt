@@ -31,7 +31,7 @@ use Rattle.leaves.specs.Leaves.{algebraOf, tableAlgebra}
 use Rattle.maps.specs.Maps.{batchedTable, Small}
 use Rattle.maps.proofs.Composing.{batch-more, rule-united, small-batched}
 use Rattle.workspace.specs.Workspace.{Sound, pairsOf}
-use Rattle.operations.specs.Operations.{unitedTable}
+use Rattle.operands.specs.Operands.{unitedTable}
 use Rattle.operations.proofs.Dispatch.{rule-acts, union-acts, relabel-acts, connect-acts}
 use Rattle.stretches.specs.declared.Stretch.{Stretch}
 use Rattle.stretches.specs.Stretches.{Spelt, Chain, joinedCounts, chainCounts}

@@ -7,7 +7,7 @@ use Rattle.semantics.specs.AnswerSets.{byMasks}
 use Rattle.tables.specs.Algebras.{tables}
 use Rattle.entries.specs.Carries.{Entry}
 use Rattle.leaves.specs.Leaves.{tableAlgebra}
-use Rattle.operations.specs.Operations.{Loaded}
+use Rattle.operands.specs.Operands.{Loaded}
 use Rattle.advances.specs.Advances.{Stands}
 use Rattle.advances.proofs.Advancing.{counts-reach, loaded, counts-apply, advanced}
 use borrow.Author.Needs.{needs}

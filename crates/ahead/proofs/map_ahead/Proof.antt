@@ -9,7 +9,7 @@ use Rattle.batches.specs.Batches.{commandsOf}
 use Rattle.entries.specs.Carries.{Entry}
 use Rattle.maps.specs.Maps.{batchedTable}
 use Rattle.stacks.specs.Stacks.{countBelow, Applies}
-use Rattle.operations.specs.Operations.{Loaded}
+use Rattle.operands.specs.Operands.{Loaded}
 use Rattle.advances.specs.Advances.{Stands}
 use Rattle.advances.proofs.Advancing.{counts-reach, loaded}
 use Rattle.ahead.proofs.Keeping.{changed-stands}

@@ -4,8 +4,8 @@ use Prim.Native.Nat.{ℕ, _+_, _-_, _*_, _≤_, _<_}
 use lib.ListN.{length}
 use Rattle.rows.proofs.Tables.{row-within}
 use Rattle.batches.specs.Batches.{commandsOf}
-use Rattle.operations.specs.Operations.{Loaded}
-use Rattle.operations.proofs.Loads.{rest-is, beside-room, start-within, beside-rest, below, inside, scratch-zero, newer-stands, stands-rows, stands-few}
+use Rattle.operands.specs.Operands.{Loaded}
+use Rattle.operands.proofs.Loads.{rest-is, beside-room, start-within, beside-rest, below, inside, scratch-zero, newer-stands, stands-rows, stands-few}
 use Rattle.operations.proofs.Mapping.{mapped-acted}
 use borrow.Author.Needs.{needs}
 use native.Mathlib.Omega.{arith}

@@ -5,8 +5,8 @@ use Prim.Native.Nat.{ℕ, _+_, _-_, _*_, _≤_, _<_}
 use lib.ListN.{length}
 use Rattle.rows.proofs.Tables.{row-within}
 use Rattle.semantics.specs.AnswerSets.{byMasks}
-use Rattle.operations.specs.Operations.{Loaded}
-use Rattle.operations.proofs.Loads.{beside-room, inside, scratch-zero, free-zero}
+use Rattle.operands.specs.Operands.{Loaded}
+use Rattle.operands.proofs.Loads.{beside-room, inside, scratch-zero, free-zero}
 use Rattle.leaves.proofs.Writing.{wide-two}
 use Rattle.operations.proofs.Pushing.{pushed-acted, leaf-filled, leaf-ordered}
 use borrow.Author.Needs.{needs}

@@ -4,8 +4,8 @@ use mathlib.Core.List.{List}
 use Prim.Native.Nat.{ℕ, _+_, _-_, _*_, _≤_, _<_}
 use lib.ListN.{length}
 use Rattle.rows.proofs.Tables.{row-within}
-use Rattle.operations.specs.Operations.{Loaded}
-use Rattle.operations.proofs.Loads.{beside-room, inside, scratch-zero, free-zero}
+use Rattle.operands.specs.Operands.{Loaded}
+use Rattle.operands.proofs.Loads.{beside-room, inside, scratch-zero, free-zero}
 use Rattle.operations.proofs.Pushing.{pushed-acted, rule-filled, rule-ordered}
 use borrow.Author.Needs.{needs}
 use native.Mathlib.Omega.{arith}

@@ -4,7 +4,7 @@ use Prim.Native.Nat.{_*_}
 use lib.ListN.{drop}
 use lib.Seq.{length-take-le}
 use borrow.Author.Tests.{not-true, not-false}
-use Rattle.operations.proofs.Loads.{rest-is}
+use Rattle.operands.proofs.Loads.{rest-is}
 use Rattle.forms.specs.Forms.{areZero}
 use Rattle.record_tests.proofs.Forming.{areas-fit}
 use borrow.Author.Needs.{needs}

@@ -1,11 +1,11 @@
--- `operations::values_from`: as many words for each table below.
+-- `operands::values_from`: as many words for each table below.
 use mathlib.Core.Path.{ap}
 use Prim.Native.Nat.{ℕ, _*_}
 use native.Mathlib.Nat.{mul-le-mul}
 use native.Mathlib.Omega.{arith}
-use Rattle.operations.proofs.Loads.{few-words}
-use Rattle.operations.proofs.values_from.Statement.{statement}
-use Rattle.operations.proofs.values_from.Tie as tie
+use Rattle.operands.proofs.Loads.{few-words}
+use Rattle.operands.proofs.values_from.Statement.{statement}
+use Rattle.operands.proofs.values_from.Tie as tie
 
 words-of-requires : tie.Need-words-of-requires
 words-of-requires c κs = omega (arith, few-words (c .args .carry) (c .args .p) (c .pre .1))

@@ -1,4 +1,4 @@
--- `operations::unite_newest`: the two newest tables are united, and the values moved to the older one's place.
+-- `operands::unite_newest`: the two newest tables are united, and the values moved to the older one's place.
 use mathlib.Core.Path.{_≡_, refl, sym, ap, _∙_, subst}
 use mathlib.Core.List.{List}
 use Prim.Native.Nat.{ℕ, _+_, _-_, _*_, _≤_, _<_}
@@ -7,15 +7,15 @@ use Rattle.entries.specs.Carries.{Entry, Beside}
 use Rattle.semantics.specs.Expressions.{uniteNewest}
 use Rattle.rows.proofs.Tables.{row-within}
 use Rattle.workspace.specs.Workspace.{valuesFrom, placed, Acted}
-use Rattle.operations.specs.Operations.{Loaded, unitedTable}
-use Rattle.operations.proofs.Loads.{rest-is, beside-room, start-within, beside-rest, below, inside, area-behind, scratch-zero, newer-stands, older-stands, stands-rows, stands-few}
-use Rattle.operations.proofs.Uniting.{united-acted}
+use Rattle.operands.specs.Operands.{Loaded, unitedTable}
+use Rattle.operands.proofs.Loads.{rest-is, beside-room, start-within, beside-rest, below, inside, area-behind, scratch-zero, newer-stands, older-stands, stands-rows, stands-few}
+use Rattle.operands.proofs.Uniting.{united-acted}
 use borrow.Author.Needs.{needs}
 use native.Mathlib.Omega.{arith}
 use borrow.Author.Needs.{needs}
-use Rattle.operations.proofs.unite_newest.Statement.{statement}
-use Rattle.operations.proofs.unite_newest.Tie as tie
-use Rattle.operations.proofs.values_from.Reads as values-from-reads
+use Rattle.operands.proofs.unite_newest.Statement.{statement}
+use Rattle.operands.proofs.unite_newest.Tie as tie
+use Rattle.operands.proofs.values_from.Reads as values-from-reads
 use Rattle.unions.proofs.unite_tables.Reads as unite-tables-reads
 use Rattle.workspace.proofs.move_values.Reads as move-values-reads
 

@@ -20,8 +20,8 @@ use Rattle.making.specs.Making.{tableOfAll, Finished, entriesAt}
 use Rattle.workspace.specs.Workspace.{workspaceOf, Sound, pairsOf, valuesFrom, placed, Acted}
 use Rattle.workspace.proofs.Areas.{popped, changed}
 use Rattle.workspace.proofs.Acting.{sound-pairs, acted}
-use Rattle.operations.specs.Operations.{Loaded, unitedTable}
-use Rattle.operations.proofs.Loads.{beside-room, newer-stands, older-stands, stands-entries}
+use Rattle.operands.specs.Operands.{Loaded, unitedTable}
+use Rattle.operands.proofs.Loads.{beside-room, newer-stands, older-stands, stands-entries}
 
 -- the candidates of a union
 module _ (carry : Carry) (a b : List Entry) where

@@ -18,7 +18,7 @@ use Rattle.workspace.specs.Workspace.{workspaceOf, Sound, pairsOf, valuesOf, va
 use Rattle.workspace.proofs.Areas.{workspace-long, area-newest, area-second, area-free, scratch-free}
 use Rattle.rows.proofs.Tables.{row-within}
 use Rattle.workspace.proofs.Acting.{sound-pairs, operand-rows, operand-pairs, operand-entries}
-use Rattle.operations.specs.Operations.{Loaded}
+use Rattle.operands.specs.Operands.{Loaded}
 
 -- ---- room for values
 
