@@ -1,14 +1,13 @@
 -- A command on tables that stand with their counts. Assumes nothing.
-use mathlib.Core.Path.{_≡_, sym, ap, _∙_, subst}
+use mathlib.Core.Path.{_≡_, sym, ap, _∙_}
 use mathlib.Core.List.{List}
-use Prim.Native.Nat.{ℕ, _+_, _-_, _*_, _≤_, _<_}
+use Prim.Native.Nat.{ℕ, _+_, _-_, _≤_, _<_}
 use native.Mathlib.Omega.{arith}
-use lib.ListN.{length, drop, length-append}
+use lib.ListN.{length, length-append}
 use Rattle.expression.specs.declared.Command.{Command}
 use Rattle.expression.specs.declared.Command.the-variants.{Atom, Rule, Union, Relabel, Connect}
 use Rattle.expression.specs.Limits.{depthLimit}
 use Rattle.semantics.specs.Expressions.{Operations, act}
-use Rattle.decisions.specs.Decisions.{newest}
 use Rattle.rows.specs.Parts.{zeros}
 use Rattle.rows.proofs.Parts.{zeros-long}
 use Rattle.entries.specs.declared.Carry.{Carry}

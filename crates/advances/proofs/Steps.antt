@@ -1,5 +1,5 @@
 -- One command of a walk over tables: what it meets, how deep the stack is then, and where the walk goes. Assumes nothing.
-use mathlib.Core.Path.{_≡_, refl, sym, ap, _∙_}
+use mathlib.Core.Path.{_≡_, refl}
 use mathlib.Core.Bool.{Bool, true, false, cond}
 use mathlib.Core.List.{List, [], _∷_}
 use Prim.Native.Nat.{ℕ, zero, suc, _+_, _-_, _≤_, _<_}
@@ -11,10 +11,10 @@ use Rattle.expression.specs.declared.Command.{Command}
 use Rattle.expression.specs.declared.Command.the-variants.{Atom, Rule, Union, Relabel, Connect}
 use Rattle.expression.specs.declared.Counts.{Counts}
 use Rattle.expression.specs.Limits.{atomLimit, ruleLimit, depthLimit}
-use Rattle.expression.specs.Refusals.{crowded, deep, bare, subsetsFull, plansFull}
+use Rattle.expression.specs.Refusals.{subsetsFull, plansFull}
 use Rattle.expression.specs.Reading.{newAtoms, depthAfter, countFault, Placed}
 use Rattle.semantics.specs.Expressions.{Operations, act, uniteNewest, changeNewest}
-use Rattle.decisions.specs.Decisions.{Walked, stopped, walked, newest, walk}
+use Rattle.decisions.specs.Decisions.{stopped, walked, newest, walk}
 use Rattle.workspace.specs.Workspace.{faultOf}
 use Rattle.operations.specs.Operations.{Meets}
 

@@ -7,7 +7,6 @@ ghost use mathlib.Core.List.{_∷_, map};
 ghost use Prim.Native.Nat.{_+_, _*_, _≤_, _<_};
 ghost use lib.Bits.{bitOr};
 ghost use lib.ListN.{length, take, getD};
-ghost use Rattle.lists.specs.Sorted.{setOf};
 ghost use Rattle.labels.specs.Labels.{labelCount};
 ghost use Rattle.labels.specs.Sets.{without};
 ghost use Rattle.expression.specs.declared.Command.the-variants.{Connect};

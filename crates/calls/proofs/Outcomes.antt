@@ -1,8 +1,7 @@
 -- What a decision over tables with values answers is the outcome that the definitions ask. Assumes nothing.
 use mathlib.Core.Path.{_≡_, refl, sym, ap, _∙_}
 use mathlib.Core.List.{List, map}
-use Prim.Native.Nat.{ℕ, _+_, _*_, _≤_}
-use native.Mathlib.Omega.{arith}
+use Prim.Native.Nat.{ℕ, _+_}
 use lib.ListN.{length}
 use Rattle.labels.specs.Labels.{labelCount}
 use Rattle.expression.specs.declared.Counts.{Counts}
@@ -16,7 +15,7 @@ use Rattle.semantics.specs.AnswerSets.{byMasks}
 use Rattle.tables.specs.Definitions.{pairs, flat, accepting}
 use Rattle.values.specs.Values.{lowered}
 use Rattle.values.specs.First.{firstWords}
-use Rattle.decisions.specs.Decisions.{affirmed, denied, assumed, answer, newest, plain}
+use Rattle.decisions.specs.Decisions.{affirmed, denied, assumed, answer, newest}
 use Rattle.decisions.specs.Outcomes.{GroundedOutcome, PlainOutcome}
 use Rattle.decisions.proofs.Carried.{mapWalked, newest-map, valuedWalk, low-walk, grounded-refused, plain-refused, plain-stopped, plain-walked-grounded}
 use Rattle.decisions.proofs.Words.{leastIn}

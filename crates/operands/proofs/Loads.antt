@@ -1,12 +1,11 @@
 -- What a workspace that holds a stack of tables gives to a command: room, scratch, and its operands. Assumes nothing.
 use mathlib.Core.Path.{_≡_, sym, ap, _∙_, subst}
 use mathlib.Core.List.{List, [], _∷_, map}
-use Prim.Native.Nat.{ℕ, suc, _+_, _-_, _*_, _≤_, _<_}
+use Prim.Native.Nat.{ℕ, _+_, _-_, _*_, _≤_, _<_}
 use native.Mathlib.Omega.{arith}
 use lib.ListN.{length, take, drop, length-drop, length-map}
 use lib.Seq.{take-all}
 use Rattle.lists.specs.Lists.{All}
-use Rattle.tables.specs.Definitions.{Pair}
 use Rattle.decisions.specs.Decisions.{newest}
 use Rattle.rows.specs.Parts.{part, zeros}
 use Rattle.rows.specs.Rows.{Rows, rowsIn, tableOf}
@@ -14,7 +13,7 @@ use Rattle.entries.specs.declared.Carry.{Carry}
 use Rattle.entries.specs.Carries.{Entry, inWords, valuesIn, Beside}
 use Rattle.entries.proofs.Keeping.{in-row, in-most, in-rising}
 use Rattle.making.specs.Making.{entriesAt}
-use Rattle.workspace.specs.Workspace.{workspaceOf, Sound, pairsOf, valuesOf, valuesFrom}
+use Rattle.workspace.specs.Workspace.{Sound, pairsOf, valuesOf, valuesFrom}
 use Rattle.workspace.proofs.Areas.{workspace-long, area-newest, area-second, area-free, scratch-free}
 use Rattle.rows.proofs.Tables.{row-within}
 use Rattle.workspace.proofs.Acting.{sound-pairs, operand-rows, operand-pairs, operand-entries}

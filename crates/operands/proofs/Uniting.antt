@@ -1,7 +1,7 @@
 -- The union of the two newest tables of a workspace. Assumes nothing.
-use mathlib.Core.Path.{_≡_, refl, sym, ap, ap₂, _∙_, subst}
-use mathlib.Core.List.{List, [], _∷_, map, List·Memᴰ}
-use Prim.Native.Nat.{ℕ, suc, _+_, _-_, _*_, _≤_, _<_}
+use mathlib.Core.Path.{_≡_, sym, ap, ap₂, _∙_, subst}
+use mathlib.Core.List.{List, [], _∷_, map}
+use Prim.Native.Nat.{ℕ, suc, _-_, _*_, _≤_, _<_}
 use native.Mathlib.Omega.{arith}
 use lib.ListN.{length, drop, length-map}
 use Rattle.lists.specs.Lists.{All, products}
@@ -17,7 +17,7 @@ use Rattle.rows.specs.Rows.{tableOf}
 use Rattle.entries.specs.declared.Carry.{Carry}
 use Rattle.entries.specs.Carries.{Entry, entryAlgebra, Beside}
 use Rattle.making.specs.Making.{tableOfAll, Finished, entriesAt}
-use Rattle.workspace.specs.Workspace.{workspaceOf, Sound, pairsOf, valuesFrom, placed, Acted}
+use Rattle.workspace.specs.Workspace.{workspaceOf, pairsOf, valuesFrom, placed, Acted}
 use Rattle.workspace.proofs.Areas.{popped, changed}
 use Rattle.workspace.proofs.Acting.{sound-pairs, acted}
 use Rattle.operands.specs.Operands.{Loaded, unitedTable}

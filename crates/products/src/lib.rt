@@ -1,5 +1,4 @@
 // The unions of two runs' numbers: gathered in any order through a filter, and put in order once.
-ghost use mathlib.Core.Path.{_≡_};
 ghost use mathlib.Core.List.{_++_, map};
 ghost use Prim.Native.Nat.{_+_, _≤_, _<_};
 ghost use lib.Bits.{bitOr};

@@ -1,9 +1,8 @@
 -- The newest table of a workspace, written or not. Assumes nothing.
-use mathlib.Core.Path.{_≡_, refl, sym, ap, _∙_}
-use mathlib.Core.List.{List, [], _++_}
+use mathlib.Core.Path.{_≡_, refl}
+use mathlib.Core.List.{List, _++_}
 use Prim.Native.Nat.{ℕ, _+_, _-_, _*_, _≤_, _<_}
 use native.Mathlib.Omega.{arith}
-use lib.Dec.{ltb}
 use lib.ListN.{length, drop}
 use borrow.Author.Tests.{lt-ltb, le-ltb}
 use Rattle.expression.specs.Limits.{depthLimit}
@@ -13,15 +12,12 @@ use Rattle.rows.specs.Parts.{part}
 use Rattle.rows.specs.Rows.{Rows, rowsIn}
 use Rattle.entries.specs.declared.Carry.the-variants.{Nothing}
 use Rattle.entries.specs.Carries.{Entry}
-use Rattle.leaves.specs.declared.Tables.{Tables}
 use Rattle.workspace.specs.Workspace.{pairsOf}
 use Rattle.stacks.specs.Stacks.{countBelow}
 use Rattle.operands.specs.Operands.{Loaded}
 use Rattle.operands.proofs.Loads.{Stands as Operand, below, inside, newer-stands, stands-rows, stands-pairs}
 use Rattle.advances.specs.Advances.{Stands}
 use Rattle.advances.proofs.Advancing.{loaded}
-use Rattle.reports.specs.Reports.{reportOf}
-use Rattle.reporting.specs.declared.Report.{Report}
 use Rattle.reporting.specs.declared.Report.the-variants.{Written, Refused}
 use Rattle.reporting.specs.Reporting.{tableAt, reportAnswer, reportBuffer}
 

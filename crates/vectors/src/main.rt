@@ -1,9 +1,7 @@
 // The engine held against the oracle: the sheets to try of 01 that are not starred, then pseudo-random sheets, each by one of the four calls. Compared
 // are the outcome, the plan shown, every word of a report and every word of workspace and buffer afterwards. Prints the first disagreement, if any, and
 // how often each outcome was agreed on.
-ghost use mathlib.Core.Path.{_≡_};
 ghost use Prim.Native.Nat.{_+_, _*_, _<_, _≤_};
-ghost use lib.ListN.{length};
 use calls::grounded;
 use calls::plain;
 use checks::outcomes::kind;

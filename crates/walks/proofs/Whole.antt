@@ -2,31 +2,23 @@
 use mathlib.Core.Path.{_≡_, refl, sym, ap, _∙_}
 use mathlib.Core.Bool.{Bool, true, false}
 use mathlib.Core.List.{List, [], _∷_}
-use Prim.Native.Nat.{ℕ, zero, suc, _+_, _-_, _≤_, _<_}
+use Prim.Native.Nat.{ℕ, zero, suc, _+_, _-_}
 use native.Mathlib.Omega.{arith}
 use lib.Dec.{ltb}
 use lib.ListN.{length}
 use borrow.Author.Tests.{ltb-true, ltb-false}
 use Rattle.labels.specs.Labels.{labelCount}
 use Rattle.expression.specs.declared.Counts.{Counts}
-use Rattle.expression.specs.declared.Checked.the-variants.{Passed}
-use Rattle.expression.specs.Limits.{rowWords}
 use Rattle.expression.specs.Reading.{Placed, whole, readFrom, reading, noCounts}
-use Rattle.expression.specs.Checks.{Request, check}
+use Rattle.expression.specs.Checks.{Request}
 use Rattle.expression.proofs.Readings.{from-end, whole-taken}
 use Rattle.expression.proofs.Checks.{Joined}
-use Rattle.semantics.specs.AnswerSets.{Assumptions}
-use Rattle.tables.specs.Algebras.{tables}
-use Rattle.tables.specs.Definitions.{pairs, flat}
-use Rattle.values.specs.Values.{valued}
-use Rattle.decisions.specs.Decisions.{walk, commandsIn, assumed, pairsFault}
+use Rattle.decisions.specs.Decisions.{commandsIn, assumed}
 use Rattle.decisions.proofs.Carried.{valuedWalk}
 use Rattle.entries.specs.declared.Carry.{Carry}
 use Rattle.entries.specs.Carries.{carriedBy}
 use Rattle.leaves.specs.declared.Tables.{Tables}
-use Rattle.leaves.specs.declared.Tables.the-variants.{Plain, Pairs}
 use Rattle.leaves.specs.Leaves.{algebraOf, tableAlgebra}
-use Rattle.workspace.specs.Workspace.{pairsOf}
 use Rattle.walks.specs.Walks.{before, walkTo}
 use Rattle.walks.proofs.Before.{before-nil, before-more}
 

@@ -7,7 +7,7 @@ use borrow.Rule.Slice.PartMut.{putMid, same-len-mid}
 use borrow.Author.Needs.{needs}
 use Rattle.tables.specs.Definitions.{subsets, unitePairs}
 use Rattle.runs.specs.Runs.{Filled}
-use Rattle.candidates.specs.Candidates.{pairOf, Readable}
+use Rattle.candidates.specs.Candidates.{pairOf}
 use Rattle.candidates.proofs.Making.{holds, exceeds}
 use Rattle.candidates.proofs.unite_row.Statement.{statement}
 use Rattle.candidates.proofs.unite_row.Tie as tie

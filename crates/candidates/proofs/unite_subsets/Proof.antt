@@ -1,6 +1,6 @@
 -- `candidates::unite_subsets`: the first batch, then the others. Assumes nothing.
-use mathlib.Core.List.{List, _∷_, _++_, map}
-use Prim.Native.Nat.{ℕ, _≤_}
+use mathlib.Core.List.{_∷_, _++_, map}
+use Prim.Native.Nat.{_≤_}
 use native.Mathlib.Omega.{arith}
 use lib.Bits.{bitOr}
 use lib.ListN.{length}

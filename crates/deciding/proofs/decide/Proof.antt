@@ -1,7 +1,7 @@
 -- `deciding::decide`: from the cleared words through the walk to what its last table says, and to cleared words again.
 use mathlib.Core.Path.{_≡_, refl, sym, ap, _∙_, subst}
 use mathlib.Core.List.{List, [], map}
-use Prim.Native.Nat.{ℕ, _+_, _*_, _≤_}
+use Prim.Native.Nat.{ℕ, _+_, _*_}
 use lib.ListN.{length}
 use Rattle.labels.specs.Labels.{labelCount}
 use Rattle.expression.specs.Limits.{depthLimit}
@@ -11,7 +11,7 @@ use Rattle.leaves.proofs.Writing.{wide-two}
 use Rattle.workspace.specs.Workspace.{pairsOf}
 use Rattle.stacks.proofs.Clearing.{holds-counted}
 use Rattle.walks.specs.declared.Reached.{Reached}
-use Rattle.walks.specs.declared.Reached.the-variants.{Stopped, Through}
+use Rattle.walks.specs.declared.Reached.the-variants.{Through}
 use Rattle.advances.specs.Advances.{Stands}
 use Rattle.walks.specs.Walks.{Reaches}
 use Rattle.advances.proofs.Advancing.{beside-as, counts-reach}

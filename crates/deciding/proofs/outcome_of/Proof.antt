@@ -2,7 +2,6 @@
 use mathlib.Core.Path.{sym, ap}
 use Rattle.deciding.specs.Deciding.{valueOutcome}
 use borrow.Author.Needs.{needs}
-use native.Mathlib.Omega.{arith}
 use borrow.Author.Needs.{needs}
 use Rattle.deciding.proofs.outcome_of.Statement.{statement}
 use Rattle.deciding.proofs.outcome_of.Tie as tie

@@ -1,5 +1,5 @@
 -- `engine::decide_in`: the front of each array is lent.
-use mathlib.Core.Path.{_≡_, sym, _∙_}
+use mathlib.Core.Path.{sym}
 use lib.Seq.{length-take-le}
 use Rattle.engine.proofs.Arrays.{kept-none}
 use borrow.Author.Needs.{needs}

@@ -1,9 +1,9 @@
 -- `operands::unite_newest`: the two newest tables are united, and the values moved to the older one's place.
-use mathlib.Core.Path.{_≡_, refl, sym, ap, _∙_, subst}
+use mathlib.Core.Path.{_≡_, refl, ap, _∙_}
 use mathlib.Core.List.{List}
 use Prim.Native.Nat.{ℕ, _+_, _-_, _*_, _≤_, _<_}
-use lib.ListN.{length, take, drop}
-use Rattle.entries.specs.Carries.{Entry, Beside}
+use lib.ListN.{length}
+use Rattle.entries.specs.Carries.{Entry}
 use Rattle.semantics.specs.Expressions.{uniteNewest}
 use Rattle.rows.proofs.Tables.{row-within}
 use Rattle.workspace.specs.Workspace.{valuesFrom, placed, Acted}

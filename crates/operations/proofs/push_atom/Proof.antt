@@ -1,6 +1,4 @@
 -- `operations::push_atom`: the atom's table is made in the free area behind the tables, and its values moved to their place.
-use mathlib.Core.Path.{_≡_, refl}
-use mathlib.Core.List.{List}
 use Prim.Native.Nat.{ℕ, _+_, _-_, _*_, _≤_, _<_}
 use lib.ListN.{length}
 use Rattle.rows.proofs.Tables.{row-within}

@@ -11,7 +11,6 @@ use Rattle.lists.specs.Sorted.{setOf}
 use Rattle.lists.proofs.Members.{products-at}
 use Rattle.runs.proofs.Growing.{joined}
 use Rattle.products.proofs.Filtering.{Holding, holds, holds-all, exceeds, unheld}
-use borrow.Author.Needs.{needs}
 use Rattle.products.proofs.gather_products.Statement.{statement}
 use Rattle.products.proofs.gather_products.Tie as tie
 

@@ -1,8 +1,5 @@
 -- `products::gather_unions`. Assumes nothing.
-use mathlib.Core.Path.{_≡_, sym}
 use native.Mathlib.Omega.{arith}
-use lib.ListN.{length, take}
-use Rattle.lists.specs.Sorted.{compareNumbers, Rising, setOf}
 use Rattle.products.proofs.Filtering.{rising-set, from-grown}
 use borrow.Author.Needs.{needs}
 use Rattle.products.proofs.gather_unions.Statement.{statement}

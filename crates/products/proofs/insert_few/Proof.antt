@@ -1,9 +1,9 @@
 -- `products::insert_few`: two batches at most. Assumes nothing.
 use mathlib.Core.List.{List, _++_, map}
-use Prim.Native.Nat.{ℕ, _≤_}
+use Prim.Native.Nat.{ℕ}
 use native.Mathlib.Omega.{arith}
 use lib.Bits.{bitOr}
-use lib.ListN.{length, getD, take}
+use lib.ListN.{take}
 use Rattle.lists.specs.Lists.{products}
 use Rattle.runs.proofs.Growing.{joined, Going, begin, step, stuck}
 use Rattle.products.proofs.Few.{alone, single, ends}

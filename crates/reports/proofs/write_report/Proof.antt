@@ -1,13 +1,12 @@
 -- `reports::write_report`: what is written and the words of the rows left make the whole.
 use mathlib.Core.Path.{_≡_, refl, sym, ap, ap₂, _∙_}
 use mathlib.Core.List.{List, [], _++_, append-assoc, append-nil}
-use Prim.Native.Nat.{ℕ, _+_, _-_, _*_, _≤_, _<_}
+use Prim.Native.Nat.{ℕ, _+_, _-_, _*_, _≤_}
 use lib.ListN.{length, drop, getD, length-append}
 use Rattle.tables.specs.Definitions.{subsets}
-use Rattle.rows.specs.Parts.{part, put}
+use Rattle.rows.specs.Parts.{part}
 use Rattle.rows.specs.Rows.{rowsIn}
 use Rattle.rows.proofs.Parts.{span, part-long, put-long}
-use Rattle.rows.proofs.Tables.{row-within}
 use Rattle.reports.specs.Reports.{entryWords, entryLength, reportOf}
 use Rattle.reports.proofs.Writing.{row-inside, count-is, entry-within, words-are, words-long, report-next, report-done, written-more, all-copied}
 use borrow.Author.Needs.{needs}

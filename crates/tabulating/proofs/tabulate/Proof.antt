@@ -1,7 +1,7 @@
 -- `tabulating::tabulate`: from the cleared words through the walk to the report of its newest table, and to cleared words again.
-use mathlib.Core.Path.{_≡_, refl, sym, ap, _∙_, subst}
+use mathlib.Core.Path.{_≡_, sym, ap, _∙_, subst}
 use mathlib.Core.List.{List, [], map}
-use Prim.Native.Nat.{ℕ, _+_, _*_, _≤_}
+use Prim.Native.Nat.{ℕ, _+_}
 use lib.ListN.{length}
 use Rattle.expression.specs.Limits.{depthLimit}
 use Rattle.semantics.specs.AnswerSets.{byMasks}

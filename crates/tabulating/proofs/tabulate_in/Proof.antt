@@ -1,8 +1,7 @@
 -- `tabulating::tabulate_in`: the front of each array is lent.
-use mathlib.Core.Path.{_≡_, refl, sym, _∙_}
+use mathlib.Core.Path.{refl, sym}
 use lib.Seq.{length-take-le}
 use borrow.Author.Needs.{needs}
-use native.Mathlib.Omega.{arith}
 use borrow.Author.Needs.{needs}
 use Rattle.tabulating.proofs.tabulate_in.Statement.{statement}
 use Rattle.tabulating.proofs.tabulate_in.Tie as tie

@@ -6,7 +6,6 @@ use lib.ListN.{length, getD, length-set, getD-replicate}
 use Rattle.rows.specs.Parts.{zeros}
 use Rattle.rows.proofs.Parts.{zeros-long}
 use Rattle.words.proofs.Mix.{mix, mix-more, mix-get-high, mix-all}
-use borrow.Author.Needs.{needs}
 use native.Mathlib.Omega.{arith}
 use Rattle.workspace.proofs.move_words.Statement.{statement}
 use Rattle.workspace.proofs.move_words.Tie as tie
