@@ -11,7 +11,6 @@ ghost use Rattle.checks.specs.Requests.{request};
 use commands::counting::count_fault;
 use commands::counting::counted;
 use commands::counting::no_counts;
-use commands::reading::read_at;
 use expression::Checked;
 use expression::Read;
 use expression::limits::BYTE_LIMIT;
@@ -23,6 +22,7 @@ use expression::refusals::CRAMPED;
 use expression::refusals::LIMITS;
 use expression::refusals::OVERLONG;
 use expression::refusals::UNJOINED;
+use reader::read_next;
 
 // All checks in 01's order, with limits p and g, room for so many words, and the atoms assumed true and false as masks.
 pub fn check(
@@ -64,7 +64,7 @@ pub fn check_bytes(s: &[u8]) -> Checked
     let mut at: usize = 0;
     let mut n = no_counts();
     while at < s.len() {
-        let r = read_at(s, at);
+        let r = read_next(s, at);
         let Read::Command(c, next) = r else {
             return Checked::Refused(refusal_of(r), at);
         };

@@ -1,5 +1,3 @@
-// A whole expression: the checks that come before any table, the offsets where commands start, and an outcome's words. The definitions are in the
-// crate `expression`.
+// A whole expression: the checks that come before any table, and the outcome of one that refuses. The definitions are in the crate `expression`.
 pub mod checking;
-pub mod locating;
 pub mod outcomes;

@@ -1,8 +1,8 @@
 // The answers of the calls for a host in words.
-use checks::outcomes::kind;
-use checks::outcomes::place;
-use checks::outcomes::value;
 use expression::Outcome;
+use outcomes::kind;
+use outcomes::place;
+use outcomes::value;
 use records::Progress;
 use reporting::Report;
 ghost use mathlib.Core.Path.{_≡_};

@@ -10,15 +10,15 @@ ghost use Rattle.listing.specs.Listing.{isRefusal, eitherRefused, lastSt
 use advances::AREAS;
 use calls::grounded;
 use calls::plain;
-use checks::outcomes::kind;
-use checks::outcomes::place;
-use checks::outcomes::value;
 use commands::reading::read_at;
 use expression::Outcome;
 use expression::Read;
 use expression::limits::BYTE_LIMIT;
 use libc::STDIN_FILENO;
 use libc::STDOUT_FILENO;
+use outcomes::kind;
+use outcomes::place;
+use outcomes::value;
 use report_calls::report;
 use reporting::Report;
 

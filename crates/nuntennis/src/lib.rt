@@ -6,7 +6,8 @@ use records::Record;
 ghost use mathlib.Core.Path.{_≡_};
 ghost use lib.ListN.{length};
 ghost use Rattle.labels.specs.Labels.{labelCount};
-ghost use Rattle.decisions.specs.Outcomes.{GroundedOutcome, PlainOutcome};
+ghost use Rattle.decisions.specs.Decisions.{plain};
+ghost use Rattle.decisions.specs.Outcomes.{withoutMask, GroundedOutcome};
 ghost use Rattle.leaves.specs.declared.Tables.the-variants.{Pairs};
 ghost use Rattle.reports.specs.Reports.{reportOf};
 ghost use Rattle.reporting.specs.Reporting.{reportAnswer, reportBuffer, wordsReported};
@@ -52,7 +53,7 @@ pub extern "C" fn nuntennis_plain(
     answer: &mut [u64],
 ) -> u64
     ensures { λ r. ⌜ r ≡ returned (now (answer .entry)) ⌝ }
-    ensures { λ r. ⌜ Answered (PlainOutcome labelCount (request (now (sheet .entry)) p g (length (now (workspace .entry))) «pins_in» «pins_out»)) (now (answer .entry)) (now (answer .exit)) ⌝ }
+    ensures { λ r. ⌜ now (answer .exit) ≡ unlessShort (now (answer .entry)) (now (answer .entry)) (answerOf (withoutMask (plain labelCount (request (now (sheet .entry)) p g (length (now (workspace .entry))) «pins_in» «pins_out»))) (now (answer .entry))) ⌝ }
     ensures { λ r. ⌜ now (workspace .exit) ≡ workspaceAfter (now (answer .entry)) (request (now (sheet .entry)) p g (length (now (workspace .entry))) «pins_in» «pins_out») (now (workspace .entry)) ⌝ }
 {
     if answer.len() < ANSWER_WORDS {

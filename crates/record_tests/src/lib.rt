@@ -1,7 +1,7 @@
 // Whether a running record has the form asked for (01: 18), and what stands before its place.
 use advances::AREAS;
-use checks::locating::locate;
 use expression::Located;
+use places::locate;
 use records::Record;
 ghost use mathlib.Core.Path.{_≡_};
 ghost use mathlib.Core.Bool.{_&&_};

@@ -1,11 +1,11 @@
 // The reports of the library, as the definitions say them. None has a `requires`.
 use advances::AREAS;
 use checks::checking::check;
-use checks::locating::locate;
 use expression::Checked;
 use expression::Located;
 use expression::refusals::OFFSET;
 use leaves::Tables;
+use places::locate;
 use reporting::Report;
 ghost use mathlib.Core.Path.{_≡_};
 ghost use lib.ListN.{length};

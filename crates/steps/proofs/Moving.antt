@@ -27,8 +27,8 @@ use Rattle.advances.proofs.Steps.{fault-none, fault-some}
 use Rattle.records.specs.declared.Record.{Record}
 use Rattle.records.specs.declared.Progress.the-variants.{Moved, Refused}
 use Rattle.records.specs.Steps.{moves, moveTo}
-use Rattle.steps.specs.Stepping.{Follows}
-use Rattle.steps.proofs.Cases.{by-stays, by-all, move-done, move-refused}
+use Rattle.starts.specs.Stepping.{Follows}
+use Rattle.starts.proofs.Cases.{by-stays, by-all, move-done, move-refused}
 use Rattle.advances.proofs.Bare.{bare, bare-tables, newest-pairs}
 
 module _ (a : Request) (n : ℕ) (c : Command) (ts : List (List Pair)) where

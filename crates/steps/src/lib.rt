@@ -1,19 +1,19 @@
 // One command a call, with the running record by value, as the definitions say it. No public function has a `requires`.
-use advances::AREAS;
 use advances::advance_here;
 use advances::fault_of;
 use checks::checking::check;
 use commands::counting::counted;
-use commands::reading::read_at;
 use expression::Checked;
 use expression::Counts;
 use expression::Located;
 use expression::Read;
 use expression::refusals::BAD_RECORD;
+use reader::read_next;
 use record_tests::formed_at;
 use records::Progress;
 use records::Record;
 use records::Stepped;
+use starts::refusal;
 ghost use mathlib.Core.Path.{_≡_};
 ghost use lib.ListN.{length};
 ghost use Rattle.labels.specs.Labels.{labelCount};
@@ -21,50 +21,8 @@ ghost use Rattle.expression.specs.declared.Checked.the-variants.{Passed};
 ghost use Rattle.expression.specs.declared.Located.the-variants.{Before};
 ghost use Rattle.expression.specs.Checks.{check};
 ghost use Rattle.checks.specs.Requests.{request};
-ghost use Rattle.records.specs.Steps.{formedAt, command, step, start};
-ghost use Rattle.steps.specs.Stepping.{refusedProgress, Follows};
-
-// What a check refuses.
-fn refusal(r: Checked) -> Progress
-    ensures { λ o. ⌜ o ≡ refusedProgress r ⌝ }
-{
-    match r {
-        Checked::Passed(_) => Progress::Moved,
-        Checked::Refused(n, at) => Progress::Refused(n, at),
-    }
-}
-
-// A record without tables, beside needed words that are zero.
-pub fn start(
-    state: Record,
-    ws: &mut [u32],
-    s: &[u8],
-    p: u64,
-    g: u64,
-    assumed_true: u64,
-    assumed_false: u64,
-) -> Stepped
-    ensures { λ r. ⌜ r .state ≡ start labelCount (request (now (s .entry)) p g (length (now (ws .entry))) «assumed_true» «assumed_false») state (now (ws .entry)) .state ⌝ }
-    ensures { λ r. ⌜ r .progress ≡ start labelCount (request (now (s .entry)) p g (length (now (ws .entry))) «assumed_true» «assumed_false») state (now (ws .entry)) .answer ⌝ }
-    ensures { λ r. ⌜ now (ws .exit) ≡ start labelCount (request (now (s .entry)) p g (length (now (ws .entry))) «assumed_true» «assumed_false») state (now (ws .entry)) .words ⌝ }
-{
-    let r = check(s, p, g, ws.len(), assumed_true, assumed_false);
-    let Checked::Passed(_) = r else {
-        return Stepped {
-            state,
-            progress: refusal(r),
-        };
-    };
-    stacks::clear_need(ws, AREAS * (p as usize * (g as usize + 2)));
-    Stepped {
-        state: Record {
-            place: 0,
-            tables: 0,
-            counts: [0u64; 8],
-        },
-        progress: Progress::Moved,
-    }
-}
+ghost use Rattle.records.specs.Steps.{formedAt, command, step};
+ghost use Rattle.starts.specs.Stepping.{Follows};
 
 // The command at the record's place, where n counts what stands before it; at the end there is none.
 fn command(
@@ -81,7 +39,7 @@ fn command(
     requires { ⌜ formedAt labelCount (request (now s) p g (length (now ws)) «assumed_true» «assumed_false») state (now ws) ≡ Before n ⌝ }
     ensures { λ r. ⌜ Follows (command labelCount (request (now (s .entry)) p g (length (now (ws .entry))) «assumed_true» «assumed_false») n state (now (ws .entry))) (r .state) (r .progress) (now (ws .exit)) ⌝ }
 {
-    let r = read_at(s, state.place);
+    let r = read_next(s, state.place);
     let Read::Command(c, next) = r else {
         return Stepped {
             state,

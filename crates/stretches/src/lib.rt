@@ -1,9 +1,9 @@
 // Commands that may be done at once on the newest table, read from an expression: relabels, connects, and a rule with the union behind it.
 use commands::counting::counted;
-use commands::reading::read_at;
 use expression::Command;
 use expression::Counts;
 use expression::Read;
+use reader::read_next;
 ghost use mathlib.Core.Path.{_≡_};
 ghost use Prim.Native.Nat.{ℕ, _≤_};
 ghost use lib.ListN.{length, take};
@@ -34,7 +34,7 @@ fn with_union(s: &[u8], stop: usize, g: u32, mid: usize) -> Joined
     if stop <= mid {
         return Joined::Other;
     }
-    let r = read_at(s, mid);
+    let r = read_next(s, mid);
     let Read::Command(c, next) = r else {
         return Joined::Other;
     };
@@ -51,7 +51,7 @@ fn with_union(s: &[u8], stop: usize, g: u32, mid: usize) -> Joined
 fn joined_at(s: &[u8], stop: usize, at: usize) -> Joined
     ensures { λ r. ⌜ SpeltBy labelCount (now (s .entry)) stop at r ⌝ }
 {
-    let r = read_at(s, at);
+    let r = read_next(s, at);
     let Read::Command(c, next) = r else {
         return Joined::Other;
     };

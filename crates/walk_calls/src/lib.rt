@@ -36,7 +36,7 @@ pub fn tell_start(
     if answer.len() < ANSWER_WORDS {
         return Told { state, returned: 0 };
     }
-    let s = steps::start(state, workspace, sheet, p, g, pins_in, pins_out);
+    let s = starts::start(state, workspace, sheet, p, g, pins_in, pins_out);
     let next = s.state;
     let x = s.progress;
     write_progress(answer, x);

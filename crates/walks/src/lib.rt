@@ -5,10 +5,10 @@ use advances::fault_of;
 use ahead::run_ahead;
 use commands::counting::counted;
 use commands::counting::no_counts;
-use commands::reading::read_at;
 use entries::Carry;
 use expression::Read;
 use leaves::Tables;
+use reader::read_next;
 ghost use mathlib.Core.Path.{_≡_};
 ghost use mathlib.Core.List.{List, []};
 ghost use Prim.Native.Nat.{ℕ, _+_, _*_, _≤_};
@@ -77,7 +77,7 @@ fn walk_by(
         if stop <= b.next {
             return Reached::Through(b.counts.depth as usize);
         }
-        let r = read_at(s, b.next);
+        let r = read_next(s, b.next);
         let Read::Command(c, next) = r else {
             return Reached::Through(0);
         };

@@ -3,9 +3,9 @@ use borrow.Author.Needs.{needs}
 use Rattle.host_words.proofs.Answers.{three-same}
 use Rattle.host_words.proofs.write_answer.Statement.{statement}
 use Rattle.host_words.proofs.write_answer.Tie as tie
-use Rattle.checks.proofs.outcomes.kind.Reads as kind-reads
-use Rattle.checks.proofs.outcomes.place.Reads as place-reads
-use Rattle.checks.proofs.outcomes.value.Reads as value-reads
+use Rattle.outcomes.proofs.kind.Reads as kind-reads
+use Rattle.outcomes.proofs.place.Reads as place-reads
+use Rattle.outcomes.proofs.value.Reads as value-reads
 use Rattle.host_words.proofs.write_words.Reads as write-words-reads
 
 kind-requires : tie.Need-kind-requires

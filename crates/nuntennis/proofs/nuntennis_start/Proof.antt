@@ -56,7 +56,7 @@ use Rattle.walk_calls.proofs.tell_start as tell
 use Rattle.walk_calls.proofs.tell_start.Symbol as tell-def
 use Rattle.walk_calls.proofs.tell_start.Symbol.{name as #walk-calls·tell-start}
 use Rattle.walk_calls.proofs.tell_start.Met as tell-thm
-use Rattle.stepping.proofs.Clauses.{says4}
+use Rattle.nuntennis.proofs.Clauses.{says4}
 use Rattle.nuntennis.proofs.nuntennis_start.Key.{name as #nuntennis·nuntennis-start}
 use Rattle.nuntennis.proofs.nuntennis_start as start
 use Rattle.nuntennis.proofs.nuntennis_start.Statement as stated

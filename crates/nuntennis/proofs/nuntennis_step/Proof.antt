@@ -56,7 +56,7 @@ use Rattle.walk_calls.proofs.tell_step as tell
 use Rattle.walk_calls.proofs.tell_step.Symbol as tell-def
 use Rattle.walk_calls.proofs.tell_step.Symbol.{name as #walk-calls·tell-step}
 use Rattle.walk_calls.proofs.tell_step.Met as tell-thm
-use Rattle.stepping.proofs.Clauses.{says4}
+use Rattle.nuntennis.proofs.Clauses.{says4}
 use Rattle.nuntennis.proofs.nuntennis_step.Key.{name as #nuntennis·nuntennis-step}
 use Rattle.nuntennis.proofs.nuntennis_step as step
 use Rattle.nuntennis.proofs.nuntennis_step.Statement as stated

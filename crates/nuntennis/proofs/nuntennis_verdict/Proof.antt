@@ -50,7 +50,7 @@ use Rattle.walk_calls.proofs.tell_verdict as tell
 use Rattle.walk_calls.proofs.tell_verdict.Symbol as tell-def
 use Rattle.walk_calls.proofs.tell_verdict.Symbol.{name as #walk-calls·tell-verdict}
 use Rattle.walk_calls.proofs.tell_verdict.Met as tell-thm
-use Rattle.stepping.proofs.Clauses.{says2}
+use Rattle.nuntennis.proofs.Clauses.{says2}
 use Rattle.nuntennis.proofs.nuntennis_verdict.Key.{name as #nuntennis·nuntennis-verdict}
 use Rattle.nuntennis.proofs.nuntennis_verdict as verdict
 use Rattle.nuntennis.proofs.nuntennis_verdict.Statement as stated

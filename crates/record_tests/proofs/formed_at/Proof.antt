@@ -17,7 +17,7 @@ use Rattle.record_tests.proofs.Lengths.{eight}
 use borrow.Author.Needs.{needs}
 use Rattle.record_tests.proofs.formed_at.Statement.{statement}
 use Rattle.record_tests.proofs.formed_at.Tie as tie
-use Rattle.checks.proofs.locating.locate.Reads as locate-reads
+use Rattle.places.proofs.locate.Reads as locate-reads
 use Rattle.record_tests.proofs.are_found.Reads as are-found-reads
 
 abbrev asked : tie.Start → ℕ → ℕ → Request

@@ -7,7 +7,7 @@ use native.Mathlib.Omega.{arith}
 use borrow.Author.Needs.{needs}
 use Rattle.report_calls.proofs.starts_at.Statement.{statement}
 use Rattle.report_calls.proofs.starts_at.Tie as tie
-use Rattle.checks.proofs.locating.locate.Reads as locate-reads
+use Rattle.places.proofs.locate.Reads as locate-reads
 
 returns : tie.Need-returns
 returns c =

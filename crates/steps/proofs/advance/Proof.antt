@@ -5,15 +5,15 @@ use Rattle.labels.specs.Labels.{labelCount}
 use Rattle.expression.specs.declared.Checked.the-variants.{Passed}
 use Rattle.expression.specs.Checks.{Request, check}
 use Rattle.checks.specs.Requests.{request}
-use Rattle.steps.specs.Stepping.{refusedProgress}
-use Rattle.steps.proofs.Cases.{step-refused, step-unformed, step-formed, by-stays, by-all}
+use Rattle.starts.specs.Stepping.{refusedProgress}
+use Rattle.starts.proofs.Cases.{step-refused, step-unformed, step-formed, by-stays, by-all}
 use borrow.Author.Needs.{needs}
 use Rattle.steps.proofs.advance.Statement.{statement}
 use Rattle.steps.proofs.advance.Tie as tie
 use Rattle.checks.proofs.checking.check.Reads as check-reads
 use Rattle.steps.proofs.command.Reads as command-reads
 use Rattle.record_tests.proofs.formed_at.Reads as formed-at-reads
-use Rattle.steps.proofs.refusal.Reads as refusal-reads
+use Rattle.starts.proofs.refusal.Reads as refusal-reads
 
 abbrev asked : tie.Start → Request
 asked s = request (s .args .s .now) (s .args .p) (s .args .g) (length (s .args .ws .now)) (s .args .assumed-true) (s .args .assumed-false)

@@ -15,7 +15,7 @@ use Rattle.advances.specs.Advances.{Stands, Advanced}
 use Rattle.checks.specs.Requests.{request}
 use Rattle.checks.proofs.Passing.{accepted}
 use Rattle.records.specs.Steps.{found, moveTo, command}
-use Rattle.steps.proofs.Cases.{command-none, command-read, by-stays, by-all}
+use Rattle.starts.proofs.Cases.{command-none, command-read, by-stays, by-all}
 use Rattle.advances.proofs.Bare.{bare}
 use Rattle.record_tests.proofs.Forming.{stands, bare-many, suits, meets, tables-after}
 use Rattle.record_tests.proofs.Lengths.{eight}
@@ -24,7 +24,7 @@ use borrow.Author.Needs.{needs}
 use Rattle.steps.proofs.command.Statement.{statement}
 use Rattle.steps.proofs.command.Tie as tie
 use Rattle.commands.proofs.counting.counted.Reads as counted-reads
-use Rattle.commands.proofs.reading.read_at.Reads as read-at-reads
+use Rattle.reader.proofs.read_next.Reads as read-next-reads
 use Rattle.advances.proofs.advance_here.Reads as advance-here-reads
 use Rattle.advances.proofs.fault_of.Reads as fault-of-reads
 
@@ -51,7 +51,7 @@ module _ (e : tie.After-r) where
   next = e .r .given .0 .1 .0
 
   read : readAt labelCount (origin .args .s .now) (origin .args .state .place) ≡ Got action next
-  read = sym (e .before .before .read-at .ensures) ∙ e .r .given .1
+  read = sym (e .before .before .read-next .ensures) ∙ e .r .given .1
 
 -- it acted
 module _ (v : tie.After-advance-here) where
@@ -67,8 +67,8 @@ module _ (v : tie.After-advance-here) where
   commands : command labelCount (asked s) (s .args .n) (s .args .state) (s .args .ws .now) ≡ moveTo labelCount (asked s) (next given) (meant (asked s) (s .args .n .atoms) (action given) (found labelCount (asked s) (s .args .state) (s .args .ws .now))) (s .args .state) (s .args .ws .now)
   commands = command-read labelCount (asked s) (s .args .state) (s .args .ws .now) (s .args .n) (read given)
 
-read-at-requires : tie.Need-read-at-requires
-read-at-requires c κs = search needs
+read-next-requires : tie.Need-read-next-requires
+read-next-requires c κs = search needs
 
 enum-known-r : tie.Need-enum-known-r
 enum-known-r c = search needs
@@ -79,7 +79,7 @@ enum-told c = search needs
 returns : tie.Need-returns
 returns c =
     let s = c .before .before .before .before .before in
-    by-stays (command-none labelCount (asked s) (s .args .state) (s .args .ws .now) (s .args .n) (sym (c .before .before .read-at .ensures) ∙ c .enum-told .given .1)) _ refl
+    by-stays (command-none labelCount (asked s) (s .args .state) (s .args .ws .now) (s .args .n) (sym (c .before .before .read-next .ensures) ∙ c .enum-told .given .1)) _ refl
 
 slice-aggregate-advance-here : tie.Need-slice-aggregate-advance-here
 slice-aggregate-advance-here c = search needs
@@ -126,7 +126,7 @@ pub command-spec : {M : Type 1} → statement M
 command-spec =
     tie.close
     (tie.spec
-    read-at-requires
+    read-next-requires
     enum-known-r
     enum-told
     returns

@@ -6,8 +6,8 @@ use borrow.Author.Needs.{needs}
 use Rattle.stretches.proofs.joined_at.Statement.{statement}
 use Rattle.stretches.proofs.joined_at.Tie as tie
 
-read-at-requires : tie.Need-read-at-requires
-read-at-requires c κs = search needs
+read-next-requires : tie.Need-read-next-requires
+read-next-requires c κs = search needs
 
 enum-known-r : tie.Need-enum-known-r
 enum-known-r c = search needs
@@ -39,17 +39,17 @@ enum-told-5 c = search needs
 returns-2 : tie.Need-returns-2
 returns-2 c =
     let r = c .before .before .before .before .before in
-    c .with-union .ensures _ (rule-read labelCount _ 0 _ _ _ (sym (r .before .before .read-at .ensures) ∙ r .r .given .1) (c .before .before .c .given .1))
+    c .with-union .ensures _ (rule-read labelCount _ 0 _ _ _ (sym (r .before .before .read-next .ensures) ∙ r .r .given .1) (c .before .before .c .given .1))
 
 returns-3 : tie.Need-returns-3
 returns-3 c =
     let r = c .before .before .before in
-    relabel-spelt labelCount _ _ _ _ _ (sym (r .before .before .read-at .ensures) ∙ r .r .given .1) (c .enum-told2 .given .1)
+    relabel-spelt labelCount _ _ _ _ _ (sym (r .before .before .read-next .ensures) ∙ r .r .given .1) (c .enum-told2 .given .1)
 
 returns-4 : tie.Need-returns-4
 returns-4 c =
     let r = c .before .before .before in
-    connect-spelt labelCount _ _ _ _ _ (sym (r .before .before .read-at .ensures) ∙ r .r .given .1) (c .enum-told3 .given .1)
+    connect-spelt labelCount _ _ _ _ _ (sym (r .before .before .read-next .ensures) ∙ r .r .given .1) (c .enum-told3 .given .1)
 
 returns-5 : tie.Need-returns-5
 returns-5 c = search needs
@@ -61,7 +61,7 @@ pub joined-at-spec : {M : Type 1} → statement M
 joined-at-spec =
     tie.close
     (tie.spec
-    read-at-requires
+    read-next-requires
     enum-known-r
     enum-told
     returns

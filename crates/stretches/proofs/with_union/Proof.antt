@@ -10,8 +10,8 @@ use Rattle.stretches.proofs.with_union.Tie as tie
 returns : tie.Need-returns
 returns c = search needs
 
-read-at-requires : tie.Need-read-at-requires
-read-at-requires c κs = search needs
+read-next-requires : tie.Need-read-next-requires
+read-next-requires c κs = search needs
 
 enum-known-r : tie.Need-enum-known-r
 enum-known-r c = search needs
@@ -41,7 +41,7 @@ returns-3 : tie.Need-returns-3
 returns-3 c =
     let r = c .before .before .before in
     let a = r .before .before in
-    λ at h. (_, h, omega (arith, a .before .if1 .left), union-read labelCount _ 0 _ _ _ (sym (a .read-at .ensures) ∙ r .r .given .1) (c .enum-told2 .given .1))
+    λ at h. (_, h, omega (arith, a .before .if1 .left), union-read labelCount _ 0 _ _ _ (sym (a .read-next .ensures) ∙ r .r .given .1) (c .enum-told2 .given .1))
 
 returns-4 : tie.Need-returns-4
 returns-4 c = search needs
@@ -60,7 +60,7 @@ with-union-spec =
     tie.close
     (tie.spec
     returns
-    read-at-requires
+    read-next-requires
     enum-known-r
     enum-told
     returns-2

@@ -6,7 +6,7 @@ use Rattle.host_words.specs.Walked.{progressWordsOf}
 use Rattle.walk_calls.proofs.tell_start.Statement.{statement}
 use Rattle.walk_calls.proofs.tell_start.Tie as tie
 use Rattle.host_words.proofs.write_progress.Reads as write-progress-reads
-use Rattle.steps.proofs.start.Reads as start-reads
+use Rattle.starts.proofs.start.Reads as start-reads
 
 returns : tie.Need-returns
 returns c = simp (lt-ltb _ _ (c .if1 .taken)) (refl, (refl, (refl, refl)))

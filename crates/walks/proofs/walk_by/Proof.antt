@@ -113,7 +113,7 @@ module _ (e : tie.After-known-told Inv-loop μ-loop) where
   by = ran (e .before .before .before .before .before)
 
   got : readAt labelCount (st by .args .s .now) (to by) ≡ Got (e .before .r .given .0 .0) (e .before .r .given .0 .1 .0)
-  got = sym (e .before .before .before .read-at .ensures) ∙ e .before .r .given .1
+  got = sym (e .before .before .before .read-next .ensures) ∙ e .before .r .given .1
 
   -- it starts before the end
   there : to by < st by .args .stop
@@ -164,8 +164,8 @@ returns c =
     let a = ran (c .before) in
     λ beyond h. let g = going-after a beyond h in ended (st a) g (omega (arith, c .if1 .taken))
 
-read-at-requires : tie.Need-read-at-requires Inv-loop μ-loop
-read-at-requires c κs = search needs
+read-next-requires : tie.Need-read-next-requires Inv-loop μ-loop
+read-next-requires c κs = search needs
 
 enum-known-r : tie.Need-enum-known-r Inv-loop μ-loop
 enum-known-r c = search needs
@@ -197,7 +197,7 @@ same-length-14 c = ops-long (ran (c .before .before .before .before))
 returns-2 : tie.Need-returns-2 Inv-loop μ-loop
 returns-2 c =
     let a = ran (c .before .before .before .before) in
-    λ beyond h. absurd (not-fault (st a .args .kind) (st a .args .carry) (byMasks (st a .args .assumed-true) (st a .args .assumed-false)) (st a .args .w) (st a .args .p) (st a .args .stop) (st a .args .s .now) (going-after a beyond h .leading) (st a .pre .0 .6) (omega (arith, c .before .before .before .if1 .left)) _ (sym (c .before .before .read-at .ensures) ∙ c .enum-told .given .1))
+    λ beyond h. absurd (not-fault (st a .args .kind) (st a .args .carry) (byMasks (st a .args .assumed-true) (st a .args .assumed-false)) (st a .args .w) (st a .args .p) (st a .args .stop) (st a .args .s .now) (going-after a beyond h .leading) (st a .pre .0 .6) (omega (arith, c .before .before .before .if1 .left)) _ (sym (c .before .before .read-next .ensures) ∙ c .enum-told .given .1))
 
 advance-requires : tie.Need-advance-requires Inv-loop μ-loop
 advance-requires c κs =
@@ -313,7 +313,7 @@ walk-by-spec =
     same-length-6
     same-length-7
     returns
-    read-at-requires
+    read-next-requires
     enum-known-r
     enum-told
     same-length-8

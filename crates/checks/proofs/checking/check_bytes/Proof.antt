@@ -24,8 +24,8 @@ no-counts-requires c κs = search needs
 loop-holds : tie.Need-loop-holds Inv-loop μ-loop
 loop-holds c = unread-start _ _ _ (c .no-counts .ensures)
 
-read-at-requires : tie.Need-read-at-requires Inv-loop μ-loop
-read-at-requires c κs = search needs
+read-next-requires : tie.Need-read-next-requires Inv-loop μ-loop
+read-next-requires c κs = search needs
 
 enum-known-r : tie.Need-enum-known-r Inv-loop μ-loop
 enum-known-r c = search needs
@@ -41,7 +41,7 @@ returns c =
     let g = c .before .enum-told .given in
     let l = c .before .before .before .before .before .loop in
     let f : c .refusal-of .result ≡ g .0 .0 = c .refusal-of .ensures ∙ ap refusalOf (g .1) in
-    unread-fault _ _ (l .at) (l .n) (c .before .before .before .before .loop-test .taken) _ (sym (c .before .before .before .read-at .ensures) ∙ g .1 ∙ ap Fault (sym f)) (l .inv)
+    unread-fault _ _ (l .at) (l .n) (c .before .before .before .before .loop-test .taken) _ (sym (c .before .before .before .read-next .ensures) ∙ g .1 ∙ ap Fault (sym f)) (l .inv)
 
 count-fault-requires : tie.Need-count-fault-requires Inv-loop μ-loop
 count-fault-requires c κs = search needs
@@ -50,7 +50,7 @@ returns-2 : tie.Need-returns-2 Inv-loop μ-loop
 returns-2 c =
     let l = c .before .before .before .before .before .before .before .loop in
     unread-count-fault _ _ (l .at) (l .n) (c .before .before .before .before .before .before .loop-test .taken) _ _ _
-    (sym (c .before .before .before .before .before .read-at .ensures) ∙ c .before .before .before .r .given .1) (sym (c .before .count-fault .ensures)) (c .if1 .taken) (l .inv)
+    (sym (c .before .before .before .before .before .read-next .ensures) ∙ c .before .before .before .r .given .1) (sym (c .before .count-fault .ensures)) (c .if1 .taken) (l .inv)
 
 counted-requires : tie.Need-counted-requires Inv-loop μ-loop
 counted-requires c κs = search needs
@@ -58,14 +58,14 @@ counted-requires c κs = search needs
 loop-less : tie.Need-loop-less Inv-loop μ-loop
 loop-less c =
     let l = c .before .before .before .before .before .before .before .before .loop in
-    let e = read-ends _ _ (l .at) _ _ (sym (c .before .before .before .before .before .before .read-at .ensures) ∙ c .before .before .before .before .r .given .1) in
+    let e = read-ends _ _ (l .at) _ _ (sym (c .before .before .before .before .before .before .read-next .ensures) ∙ c .before .before .before .before .r .given .1) in
     omega arith
 
 loop-again : tie.Need-loop-again Inv-loop μ-loop
 loop-again c =
     let l = c .before .before .before .before .before .before .before .before .loop in
     unread-step _ _ (l .at) (l .n) (c .before .before .before .before .before .before .before .loop-test .taken) _ _ _
-    (sym (c .before .before .before .before .before .before .read-at .ensures) ∙ c .before .before .before .before .r .given .1) (omega arith) (c .counted .ensures) (omega arith) (l .inv)
+    (sym (c .before .before .before .before .before .before .read-next .ensures) ∙ c .before .before .before .before .r .given .1) (omega arith) (c .counted .ensures) (omega arith) (l .inv)
 
 returns-3 : tie.Need-returns-3 Inv-loop μ-loop
 returns-3 c = unread-unjoined _ _ _ _ (c .before .before .loop-test .left) (c .if2 .taken) (c .before .before .before .loop .inv)
@@ -81,7 +81,7 @@ check-bytes-spec =
     μ-loop
     no-counts-requires
     loop-holds
-    read-at-requires
+    read-next-requires
     enum-known-r
     enum-told
     refusal-of-requires

@@ -1,4 +1,4 @@
--- `steps::start`: a check refuses, or all is cleared.
+-- `starts::start`: a check refuses, or all is cleared.
 use mathlib.Core.Path.{_≡_, sym, ap, _∙_}
 use native.Mathlib.Omega.{arith}
 use lib.ListN.{length}
@@ -7,14 +7,14 @@ use Rattle.expression.specs.declared.Checked.the-variants.{Passed}
 use Rattle.expression.specs.Checks.{Request, check}
 use Rattle.checks.specs.Requests.{request}
 use Rattle.checks.proofs.Passing.{accepted, area-small}
-use Rattle.steps.specs.Stepping.{refusedProgress}
-use Rattle.steps.proofs.Cases.{start-refused, start-follows, by-stays}
+use Rattle.starts.specs.Stepping.{refusedProgress}
+use Rattle.starts.proofs.Cases.{start-refused, start-follows, by-stays}
 use borrow.Author.Needs.{needs}
-use Rattle.steps.proofs.start.Statement.{statement}
-use Rattle.steps.proofs.start.Tie as tie
+use Rattle.starts.proofs.start.Statement.{statement}
+use Rattle.starts.proofs.start.Tie as tie
 use Rattle.checks.proofs.checking.check.Reads as check-reads
 use Rattle.stacks.proofs.clear_need.Reads as clear-need-reads
-use Rattle.steps.proofs.refusal.Reads as refusal-reads
+use Rattle.starts.proofs.refusal.Reads as refusal-reads
 
 abbrev asked : tie.Start → Request
 asked s = request (s .args .s .now) (s .args .p) (s .args .g) (length (s .args .ws .now)) (s .args .assumed-true) (s .args .assumed-false)

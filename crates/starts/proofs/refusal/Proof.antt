@@ -1,9 +1,9 @@
--- `steps::refusal`: the variants one for one.
+-- `starts::refusal`: the variants one for one.
 use mathlib.Core.Path.{sym, ap}
-use Rattle.steps.specs.Stepping.{refusedProgress}
+use Rattle.starts.specs.Stepping.{refusedProgress}
 use borrow.Author.Needs.{needs}
-use Rattle.steps.proofs.refusal.Statement.{statement}
-use Rattle.steps.proofs.refusal.Tie as tie
+use Rattle.starts.proofs.refusal.Statement.{statement}
+use Rattle.starts.proofs.refusal.Tie as tie
 
 enum-told : tie.Need-enum-told
 enum-told c = search needs

@@ -22,7 +22,7 @@ use Rattle.records.specs.declared.Record.{Record}
 use Rattle.records.specs.declared.Progress.{Progress}
 use Rattle.records.specs.declared.Progress.the-variants.{Moved, Ended, Refused}
 use Rattle.records.specs.Steps.{Step, stays, startRecord, found, formedAt, moves, moveTo, command, step, start}
-use Rattle.steps.specs.Stepping.{Follows}
+use Rattle.starts.specs.Stepping.{Follows}
 
 module _ (K : ℕ) (a : Request) (r : Record) (ws : List ℕ) where
   abbrev need : ℕ
