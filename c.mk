@@ -6,7 +6,7 @@
 #     make install PREFIX=dir      archive, header and pkg-config file
 #
 # ARCHIVE=file tests another archive with the same calls.
-.PHONY: c-test bench run install FORCE
+.PHONY: c-test bench run install
 
 ifeq ($(origin CC),default)
 CC := gcc
@@ -57,21 +57,19 @@ run: $(C_BIN)/host
 
 install: $(ARCHIVE)
 	install -d $(DESTDIR)$(PREFIX)/lib/pkgconfig $(DESTDIR)$(PREFIX)/include
-	install -m 644 $(ARCHIVE) $(DESTDIR)$(PREFIX)/lib/libnuntennis.a
-	install -m 644 include/nuntennis.h $(DESTDIR)$(PREFIX)/include/nuntennis.h
+	install -C -m 644 $(ARCHIVE) $(DESTDIR)$(PREFIX)/lib/libnuntennis.a
+	install -C -m 644 include/nuntennis.h $(DESTDIR)$(PREFIX)/include/nuntennis.h
 	sed -e 's|@PREFIX@|$(PREFIX)|' -e 's|@VERSION@|$(C_VERSION)|' nuntennis.pc.in > $(DESTDIR)$(PREFIX)/lib/pkgconfig/nuntennis.pc
 
-# rt staticlib proves one crate after the other; rt check proves those of one level side by side.
-target/staticlib/libnuntennis.a: FORCE
-	@rt check nuntennis | grep '^rt:'
-	rt staticlib nuntennis
-
-FORCE:
+# Made anew where a file of its crates is newer, or one was added or removed.
+ARCHIVE_CRATES := $(shell scripts/needed nuntennis)
+target/staticlib/libnuntennis.a: crates.txt $(shell find $(ARCHIVE_CRATES:%=crates/%) \( -name '*.rt' -o -name '*.antt' -o -type d \) -not -path '*/must-fail*')
+	@scripts/archive
 
 define C_PROGRAM
 $(C_BIN)/$(1): $$($(1)_PARTS:%=$(C_OUT)/%.o) $(ARCHIVE)
 	@mkdir -p $$(@D)
-	$$(CC) $$(C_FLAGS) $$^ -pthread -ldl -o $$@
+	@$$(CC) $$(C_FLAGS) $$^ -pthread -ldl -o $$@
 endef
 $(foreach p,$(C_TESTS) bench host,$(eval $(call C_PROGRAM,$(p))))
 
@@ -79,6 +77,6 @@ $(C_REFERENCE:%=$(C_OUT)/%.o): C_FLAGS += -O3
 
 $(C_OUT)/%.o: %.c
 	@mkdir -p $(@D)
-	$(CC) $(C_FLAGS) -MMD -c $< -o $@
+	@$(CC) $(C_FLAGS) -MMD -c $< -o $@
 
 -include $(wildcard $(C_OUT)/*/*.d)
