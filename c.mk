@@ -38,7 +38,8 @@ test_stack_PARTS := tests/test_stack bench/families
 bench_PARTS := bench/bench bench/families bench/clingo $(C_REFERENCE) tests/policy
 host_PARTS := examples/host examples/sheet_file
 
-# Under the sanitizers stack frames are larger than the library's own.
+# Under the sanitizers stack frames are larger than the library's own. The listing program is the kit's to make ('rt check listing', also part
+# of 'rt ci'); SKIP_LISTING=1 passes without it.
 c-test: $(C_TESTS:%=$(C_BIN)/%) $(C_BIN)/host
 	$(C_BIN)/test_calls
 	$(C_BIN)/test_random
@@ -47,6 +48,7 @@ c-test: $(C_TESTS:%=$(C_BIN)/%) $(C_BIN)/host
 	$(C_BIN)/test_large
 	$(if $(SANITIZE),,$(C_BIN)/test_stack)
 	$(C_BIN)/host examples/sheets/office.hex
+	tests/test_listing.sh $(if $(SKIP_LISTING),--may-skip) target/bin/listing
 
 bench: $(C_BIN)/bench
 	$(C_BIN)/bench

@@ -14,6 +14,7 @@ use commands::reading::read_at;
 use expression::Outcome;
 use expression::Read;
 use expression::limits::BYTE_LIMIT;
+use libc::STDERR_FILENO;
 use libc::STDIN_FILENO;
 use libc::STDOUT_FILENO;
 use outcomes::kind;
@@ -154,9 +155,36 @@ fn list(s: &[u8]) {
     print_listing(s, &mut ws, &mut words);
 }
 
-// One byte more is read than a sheet may have, so that 1 can be said.
+// ---- standard input
+
+// A read answers 0 at the end alone: -1 is an error.
+fn is_at_end() -> bool {
+    let mut more = [0u8; 1];
+    libc::read(STDIN_FILENO, &mut more) == 0
+}
+
+// io::read_full stops at the end and at a failed read alike, so a further read tells them apart. What fills the buffer is overlong, whatever follows.
+fn is_whole(n: usize) -> bool {
+    if n > BYTE_LIMIT {
+        return true;
+    }
+    is_at_end()
+}
+
+fn print_unread() {
+    io::write_all(
+        STDERR_FILENO,
+        b"listing: standard input was not read whole: nothing decided\n",
+    );
+}
+
+// One byte more is read than a sheet may have, so that 1 can be said. What was not read whole is not decided.
 fn main() {
     let mut bytes = [0u8; BYTE_LIMIT + 1];
     let n = io::read_full(STDIN_FILENO, &mut bytes);
-    list(&bytes[..n]);
+    if is_whole(n) {
+        list(&bytes[..n]);
+    } else {
+        print_unread();
+    }
 }
