@@ -1,22 +1,35 @@
 // A host: reads a sheet and says what the engine decides, with a progress bar by stepping.
 //
-//     host [-p PLANS] [-g SUBSETS] [-i COPIES] [-o COPIES] SHEET
+//     host [--raw | --hex] [-p PLANS] [-g SUBSETS] [-i COPIES] [-o COPIES] SHEET
 //
-// SHEET is a file of raw bytes, or of hexadecimal text (see sheet_file.h). -p and -g are the limits P and G, -i and -o pin copies in
-// and out (such as 0,2); they go before what the file says. Exit status: 0 yes, 1 no, 2 refused, 3 bad usage.
+// SHEET is a file, or - for standard input: of raw bytes (--raw), or of hexadecimal text (--hex; see sheet_file.h). Without either option
+// the host guesses where that is plain, and the first line of output says what it read. -p and -g are the limits P and G, -i and -o pin
+// copies in and out (such as 0,2); they go before what the file says. --help prints this.
+//
+// Exit status: 0 yes, 1 no, 2 refused by the engine; 3 bad usage, 4 the sheet cannot be read whole, 5 a text is not a sheet (the line is
+// named), 6 raw or text is not plain (say --raw or --hex), 7 no memory, 8 output cannot be written, 9 an answer that the host does not
+// know. From 3 to 7 nothing was decided.
 #define _POSIX_C_SOURCE 200809L
+#include "arguments.h"
 #include "nuntennis.h"
 #include "sheet_file.h"
 
+#include <errno.h>
 #include <inttypes.h>
 #include <stdio.h>
 #include <stdlib.h>
+#include <string.h>
 #include <unistd.h>
+
+enum { YES, NO, REFUSED, BAD_USAGE, UNREAD, NOT_TEXT, UNCLEAR, NO_MEMORY, UNWRITTEN, UNKNOWN_ANSWER };
 
 // ---- refusals in words
 
-static const struct { const char *word, *reason; } refusals[] = {
-    {"", ""},
+typedef struct { const char *word, *reason; } refusal_words;
+
+// The first is for numbers that a later library may give.
+static const refusal_words refusals[] = {
+    {"unknown to this host", "the header of the library says more"},
     {"overlong", "the sheet has over 4096 bytes"},
     {"limits", "P or G is outside 1 to 1024"},
     {"cramped", "the workspace is too short for P and G"},
@@ -37,6 +50,11 @@ static const struct { const char *word, *reason; } refusals[] = {
     {"record", "the record or workspace was changed between calls"},
 };
 
+static const refusal_words *words_of(uint64_t number)
+{
+    return &refusals[number < sizeof refusals / sizeof *refusals ? number : 0];
+}
+
 // The line of the sheet that the place is on, with a mark below its byte, or behind the last one.
 static void point_at(const uint8_t *sheet, size_t sheet_len, size_t place)
 {
@@ -48,12 +66,13 @@ static void point_at(const uint8_t *sheet, size_t sheet_len, size_t place)
 }
 
 // Refusals up to clash are not about a byte of the sheet.
-static void print_refusal(const sheet_file *f, const uint64_t *answer)
+static void print_refusal(const sheet_file *f, uint64_t number, uint64_t place)
 {
-    printf("refused: %" PRIu64 " %s", answer[1], refusals[answer[1]].word);
-    if (answer[1] > NUNTENNIS_CLASH) printf(" at byte %" PRIu64, answer[2]);
-    printf(": %s\n", refusals[answer[1]].reason);
-    if (answer[1] > NUNTENNIS_CLASH) point_at(f->sheet, f->sheet_len, (size_t)answer[2]);
+    const refusal_words *words = words_of(number);
+    printf("refused: %" PRIu64 " %s", number, words->word);
+    if (number > NUNTENNIS_CLASH) printf(" at byte %" PRIu64, place);
+    printf(": %s\n", words->reason);
+    if (number > NUNTENNIS_CLASH && place <= f->sheet_len) point_at(f->sheet, f->sheet_len, (size_t)place);
 }
 
 // ---- the decision, with a bar by the walk
@@ -71,10 +90,10 @@ static void draw(uint64_t place, size_t sheet_len)
 // Steps to the end and reads the verdict. On a terminal the bar is drawn at each step.
 static void decide(const sheet_file *f, uint32_t *workspace, size_t words, uint64_t *answer)
 {
-    nuntennis_record record;
+    nuntennis_record record = {0};
     int is_terminal = isatty(STDOUT_FILENO);
     nuntennis_start(&record, workspace, words, f->sheet, f->sheet_len, f->plan_limit, f->subset_limit, f->pins_in, f->pins_out, answer, 3);
-    if (answer[0] == NUNTENNIS_REFUSED) return;
+    if (answer[0] != NUNTENNIS_MOVED) return;
     while (answer[0] == NUNTENNIS_MOVED) {
         if (is_terminal) draw(record.place, f->sheet_len), printf("\r");
         nuntennis_step(&record, workspace, words, f->sheet, f->sheet_len, f->plan_limit, f->subset_limit, f->pins_in, f->pins_out, answer, 3);
@@ -95,9 +114,10 @@ static void print_copies(const char *before, uint64_t copies)
     if (copies == 0) printf(" none");
 }
 
-static void print_question(const char *path, const sheet_file *f)
+static void print_question(const sheet_file *f)
 {
-    printf("%s: %zu bytes, P = %" PRIu64 ", G = %" PRIu64 ";", path, f->sheet_len, f->plan_limit, f->subset_limit);
+    printf("%s, read as %s: %zu bytes, ", f->name, f->form == SHEET_FILE_HEX ? "hexadecimal text" : "raw bytes", f->sheet_len);
+    printf("P = %" PRIu64 ", G = %" PRIu64 ";", f->plan_limit, f->subset_limit);
     print_copies(" pinned in:", f->pins_in);
     print_copies("; pinned out:", f->pins_out);
     printf("\n");
@@ -123,31 +143,31 @@ static void print_no(const sheet_file *f, uint32_t *workspace, size_t words)
 
 static int say(const sheet_file *f, uint32_t *workspace, size_t words, const uint64_t *answer)
 {
-    if (answer[0] == NUNTENNIS_REFUSED) print_refusal(f, answer);
-    else if (answer[0] == NUNTENNIS_YES) print_plan(f, workspace, words);
-    else print_no(f, workspace, words);
-    return answer[0] == NUNTENNIS_REFUSED ? 2 : answer[0] == NUNTENNIS_NO;
-}
-
-// ---- arguments
-
-static int usage(void)
-{
-    fprintf(stderr, "usage: host [-p PLANS] [-g SUBSETS] [-i COPIES] [-o COPIES] SHEET\n");
-    return 3;
-}
-
-// An option of the command line into the file's settings.
-static int take_option(sheet_file *f, int option, const char *value)
-{
-    switch (option) {
-    case 'p': f->plan_limit = strtoull(value, NULL, 10); return 1;
-    case 'g': f->subset_limit = strtoull(value, NULL, 10); return 1;
-    case 'i': f->pins_in = 0; return sheet_file_copies(value, &f->pins_in);
-    case 'o': f->pins_out = 0; return sheet_file_copies(value, &f->pins_out);
-    default: return 0;
+    switch (answer[0]) {
+    case NUNTENNIS_YES: print_plan(f, workspace, words); return YES;
+    case NUNTENNIS_NO: print_no(f, workspace, words); return NO;
+    case NUNTENNIS_REFUSED: print_refusal(f, answer[1], answer[2]); return REFUSED;
+    default: fprintf(stderr, "host: the library answers %" PRIu64 ", which this host does not know\n", answer[0]); return UNKNOWN_ANSWER;
     }
 }
+
+static void print_help(void)
+{
+    printf("usage: host [--raw | --hex] [-p PLANS] [-g SUBSETS] [-i COPIES] [-o COPIES] SHEET\n"
+           "Says whether the backup policy of a sheet has a grounded plan.\n\n"
+           "  SHEET        a file, or - for standard input\n"
+           "  --raw        its bytes are the sheet\n"
+           "  --hex        it is hexadecimal text; # begins a comment, and a line such as '#: limits 32 32' or '#: pins in 0 2' a setting\n"
+           "               (without either option the host guesses where that is plain, and says what it read)\n"
+           "  -p PLANS     the most pairs of a table, 1 to 1024 (32 where the file does not say)\n"
+           "  -g SUBSETS   the most subsets of a pair, 1 to 1024 (32 where the file does not say)\n"
+           "  -i COPIES    copies that the plan must have, such as 0,2, or none\n"
+           "  -o COPIES    copies that it must not have\n\n"
+           "Exit status: 0 yes, 1 no, 2 refused by the engine; 3 bad usage, 4 the sheet cannot be read whole, 5 a text is not a sheet,\n"
+           "6 raw or text is not plain, 7 no memory, 8 output cannot be written, 9 an answer that the host does not know.\n");
+}
+
+// ---- from the arguments to the status
 
 // Words for the limits asked; for limits that will be refused, a few.
 static size_t words_for(const sheet_file *f)
@@ -156,26 +176,61 @@ static size_t words_for(const sheet_file *f)
     return is_allowed ? NUNTENNIS_WORKSPACE_WORDS(f->plan_limit, f->subset_limit) : 1;
 }
 
-int main(int arguments, char **argument)
+static int answer_sheet(const sheet_file *f)
 {
-    static sheet_file f;
     uint64_t answer[3];
-    int option, has_path = arguments > 1 && argument[arguments - 1][0] != '-';
-    const char *path = argument[arguments - 1];
-    if (!has_path) return usage();
-    if (!sheet_file_read(&f, path)) return 3;
-    while ((option = getopt(arguments, argument, "p:g:i:o:")) != -1)
-        if (!take_option(&f, option, optarg)) return usage();
-    if (optind != arguments - 1) return usage();
-    size_t words = words_for(&f);
+    size_t words = words_for(f);
     uint32_t *workspace = malloc((words + 1) * sizeof *workspace);
     if (!workspace) {
         fprintf(stderr, "host: no memory for %zu words\n", words);
-        return 3;
+        return NO_MEMORY;
     }
-    print_question(path, &f);
-    decide(&f, workspace, words, answer);
-    int status = say(&f, workspace, words, answer);
+    print_question(f);
+    decide(f, workspace, words, answer);
+    int status = say(f, workspace, words, answer);
     free(workspace);
     return status;
+}
+
+// Why nothing is decided is said by the reading; what to do about it, here.
+static int print_advice(const sheet_file *f, sheet_file_form asked, sheet_file_status status)
+{
+    switch (status) {
+    case SHEET_FILE_NO_MEMORY: return NO_MEMORY;
+    case SHEET_FILE_UNCLEAR: fprintf(stderr, "host: say --raw or --hex\n"); return UNCLEAR;
+    case SHEET_FILE_NOT_TEXT:
+        if (asked != f->form) fprintf(stderr, "host: read as hexadecimal text; --raw reads raw bytes\n");
+        return NOT_TEXT;
+    default: return UNREAD;
+    }
+}
+
+static int run(const arguments *a)
+{
+    sheet_file f;
+    sheet_file_status status = sheet_file_read(&f, a->path, a->form);
+    arguments_apply(a, &f);
+    int result = status == SHEET_FILE_WHOLE ? answer_sheet(&f) : print_advice(&f, a->form, status);
+    sheet_file_free(&f);
+    return result;
+}
+
+// An answer that could not be written counts for nothing.
+static int finish(int status)
+{
+    if (status > REFUSED) return status;
+    int is_lost = ferror(stdout);
+    errno = 0;
+    if (fclose(stdout) == 0 && !is_lost) return status;
+    fprintf(stderr, "host: output cannot be written: %s\n", strerror(errno ? errno : EIO));
+    return UNWRITTEN;
+}
+
+int main(int count, char **words)
+{
+    arguments a;
+    if (!arguments_read(&a, count, words)) return BAD_USAGE;
+    if (!a.wants_help) return finish(run(&a));
+    print_help();
+    return finish(YES);
 }

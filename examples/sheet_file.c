@@ -1,4 +1,4 @@
-// Reading of sheet files; everything wrong with one is said with its line.
+// Reading of sheet files; everything wrong with one is said, in a text with its line.
 #include "sheet_file.h"
 
 #include <ctype.h>
@@ -7,139 +7,254 @@
 #include <stdlib.h>
 #include <string.h>
 
-// Text has no control characters but white space; a raw sheet without a fault begins with byte 11 or 12, which is one.
-static int is_text(const char *bytes, size_t n)
+static const char BLANKS[] = " \t", BETWEEN_COPIES[] = " \t,", BYTE_ORDER_MARK[] = "\xEF\xBB\xBF";
+
+static int is_space(char c)
 {
-    for (size_t k = 0; k < n; k++)
-        if (iscntrl((unsigned char)bytes[k]) && !isspace((unsigned char)bytes[k])) return 0;
-    return n > 0;
+    return isspace((unsigned char)c);
 }
 
-int sheet_file_copies(const char *list, uint64_t *mask)
+static int is_digit(char c)
 {
-    while (*list) {
-        char *end;
-        if (*list == ' ' || *list == ',') {
-            list++;
-            continue;
-        }
-        unsigned long copy = isdigit((unsigned char)*list) ? strtoul(list, &end, 10) : 64;
-        if (copy > 63) return 0;
+    return isdigit((unsigned char)c);
+}
+
+static int is_hex_digit(char c)
+{
+    return isxdigit((unsigned char)c);
+}
+
+// ---- numbers: each function gives NULL, or what is wrong
+
+// The number at the text's start, which a blank, a comma or the end must follow. The text moves behind it.
+static const char *take_number(const char **text, uint64_t *number)
+{
+    uint64_t n = 0;
+    if (!is_digit(**text)) return "not a number";
+    for (; is_digit(**text); (*text)++) {
+        uint64_t digit = (uint64_t)(**text - '0');
+        if (n > (UINT64_MAX - digit) / 10) return "a number beyond 64 bits";
+        n = 10 * n + digit;
+    }
+    *number = n;
+    return **text && !strchr(BETWEEN_COPIES, **text) ? "not a number" : NULL;
+}
+
+const char *sheet_file_number(const char *text, uint64_t *number)
+{
+    const char *wrong = take_number(&text, number);
+    return wrong ? wrong : *text ? "not one number" : NULL;
+}
+
+const char *sheet_file_copies(const char *list, uint64_t *mask)
+{
+    uint64_t copy;
+    const char *wrong;
+    if (strncmp(list, "none", 4) == 0 && list[4 + strspn(list + 4, BLANKS)] == 0) return NULL;
+    if (list[strspn(list, BETWEEN_COPIES)] == 0) return "no copy is listed";
+    while (*(list += strspn(list, BETWEEN_COPIES))) {
+        if ((wrong = take_number(&list, &copy))) return wrong;
+        if (copy > 63) return "not a copy, as they are numbered 0 to 63";
         *mask |= (uint64_t)1 << copy;
-        list = end;
     }
-    return 1;
+    return NULL;
 }
 
-// Numbers in decimal, exactly so many.
-static int read_numbers(const char *text, uint64_t *numbers, unsigned n)
+// Exactly n numbers, or what is said where there are more or fewer.
+static const char *read_numbers(const char *text, uint64_t *numbers, unsigned n, const char *miscounted)
 {
-    char *end;
+    const char *wrong;
     for (unsigned k = 0; k < n; k++) {
-        while (*text == ' ') text++;
-        if (!isdigit((unsigned char)*text)) return 0;
-        numbers[k] = strtoull(text, &end, 10);
-        text = end;
+        text += strspn(text, BLANKS);
+        if (!*text) return miscounted;
+        if ((wrong = take_number(&text, &numbers[k]))) return wrong;
     }
-    while (*text == ' ') text++;
-    return *text == 0;
+    return text[strspn(text, BLANKS)] ? miscounted : NULL;
+}
+
+// ---- one line of a text
+
+static const char *read_limits(sheet_file *f, const char *text)
+{
+    uint64_t limits[2];
+    const char *wrong = read_numbers(text, limits, 2, "limits are two numbers");
+    if (wrong) return wrong;
+    f->plan_limit = limits[0];
+    f->subset_limit = limits[1];
+    return NULL;
+}
+
+static const char *read_answer(sheet_file *f, const char *text)
+{
+    if (f->answer_count == SHEET_FILE_ANSWERS) return "one answer too many";
+    return read_numbers(text, f->answers[f->answer_count++], 3, "an answer is three numbers");
+}
+
+static const char *read_plain(sheet_file *f, const char *text)
+{
+    if (f->plain_count++) return "a second plain answer";
+    return read_numbers(text, f->plain, 3, "an answer is three numbers");
 }
 
 // What follows a word at the start of a line, or NULL.
 static const char *after(const char *line, const char *word)
 {
     size_t n = strlen(word);
-    return strncmp(line, word, n) == 0 ? line + n : NULL;
+    if (strncmp(line, word, n) != 0 || (line[n] && !strchr(BLANKS, line[n]))) return NULL;
+    return line + n + strspn(line + n, BLANKS);
 }
 
-static int read_setting(sheet_file *f, const char *line)
+static const char *read_setting(sheet_file *f, const char *line)
 {
     const char *rest;
-    uint64_t limits[2];
-    if ((rest = after(line, "limits "))) {
-        if (!read_numbers(rest, limits, 2)) return 0;
-        f->plan_limit = limits[0];
-        f->subset_limit = limits[1];
-        return 1;
-    }
-    if ((rest = after(line, "pins in "))) return sheet_file_copies(rest, &f->pins_in);
-    if ((rest = after(line, "pins out "))) return sheet_file_copies(rest, &f->pins_out);
-    if ((rest = after(line, "answer "))) return f->answer_count < SHEET_FILE_ANSWERS && read_numbers(rest, f->answers[f->answer_count++], 3);
-    if ((rest = after(line, "plain "))) return f->plain_count++ == 0 && read_numbers(rest, f->plain, 3);
-    return 0;
+    if ((rest = after(line, "limits"))) return read_limits(f, rest);
+    if ((rest = after(line, "pins in"))) return sheet_file_copies(rest, &f->pins_in);
+    if ((rest = after(line, "pins out"))) return sheet_file_copies(rest, &f->pins_out);
+    if ((rest = after(line, "answer"))) return read_answer(f, rest);
+    if ((rest = after(line, "plain"))) return read_plain(f, rest);
+    return "no such setting (limits, pins in, pins out, answer, plain)";
 }
 
 static int digit_of(char c)
 {
-    return isdigit((unsigned char)c) ? c - '0' : tolower((unsigned char)c) - 'a' + 10;
+    return is_digit(c) ? c - '0' : tolower((unsigned char)c) - 'a' + 10;
 }
 
-// The bytes of one line, up to its comment.
-static int read_bytes(sheet_file *f, const char *line)
+// The bytes of a line, up to its comment. The line moves to what is wrong.
+static const char *read_bytes(sheet_file *f, const char **line)
 {
-    while (*line && *line != '#') {
-        if (isspace((unsigned char)*line)) {
-            line++;
+    while (**line && **line != '#') {
+        const char *c = *line;
+        if (is_space(*c)) {
+            (*line)++;
             continue;
         }
-        if (!isxdigit((unsigned char)line[0]) || !isxdigit((unsigned char)line[1])) return 0;
-        if (f->sheet_len < SHEET_FILE_BYTES) f->sheet[f->sheet_len++] = (uint8_t)(16 * digit_of(line[0]) + digit_of(line[1]));
-        line += 2;
+        if (!is_hex_digit(c[0])) return "not a hexadecimal digit";
+        if (!c[1] || is_space(c[1]) || c[1] == '#') return "one digit, where a byte is two";
+        if (!is_hex_digit(c[1])) return (*line)++, "not a hexadecimal digit";
+        f->sheet[f->sheet_len++] = (uint8_t)(16 * digit_of(c[0]) + digit_of(c[1]));
+        *line += 2;
     }
-    return 1;
+    return NULL;
 }
 
-static int read_line(sheet_file *f, char *line)
+// A comment's line has no bytes; one with #: is a setting. The line moves to what is wrong.
+static const char *read_line(sheet_file *f, const char **line)
 {
-    line[strcspn(line, "\r")] = 0;
-    if (strncmp(line, "#:", 2) != 0) return read_bytes(f, line);
-    return read_setting(f, line + 2 + strspn(line + 2, " "));
+    const char *start = *line + strspn(*line, BLANKS);
+    if (strncmp(start, "#:", 2) != 0) return read_bytes(f, line);
+    *line = start + 2 + strspn(start + 2, BLANKS);
+    return read_setting(f, *line);
 }
 
-static int read_text(sheet_file *f, char *text, const char *path)
+// ---- a whole text
+
+// The start of what is wrong, without bytes that a terminal would not show as they are.
+static sheet_file_status print_wrong_line(const char *name, size_t number, const char *wrong, const char *at)
 {
-    for (unsigned number = 1; text; number++) {
-        char *end = strchr(text, '\n');
-        if (end) *end = 0;
-        if (!read_line(f, text)) {
-            fprintf(stderr, "%s:%u: not two hexadecimal digits, or not a setting: %s\n", path, number, text);
-            return 0;
+    enum { SHOWN = 40 };
+    fprintf(stderr, "%s:%zu: %s: ", name, number, wrong);
+    for (unsigned k = 0; k < SHOWN && at[k]; k++)
+        fprintf(stderr, isprint((unsigned char)at[k]) ? "%c" : "\\x%02X", (unsigned char)at[k]);
+    fprintf(stderr, "\n");
+    return SHEET_FILE_NOT_TEXT;
+}
+
+// A line ends with LF, CR or both. The sheet's bytes are put over the text: a byte takes one place where its digits took two.
+static sheet_file_status read_text(sheet_file *f, size_t length)
+{
+    char *text = (char *)f->sheet, *end = text + length;
+    if (strncmp(text, BYTE_ORDER_MARK, 3) == 0) text += 3;
+    f->sheet_len = 0;
+    for (size_t number = 1; text <= end; number++) {
+        char *stop = text + strcspn(text, "\r\n");
+        const char *at = text, *wrong = "a zero byte in a text";
+        if (stop < end && *stop == 0) return print_wrong_line(f->name, number, wrong, text);
+        text = stop + (stop[0] == '\r' && stop[1] == '\n') + 1;
+        *stop = 0;
+        if ((wrong = read_line(f, &at))) return print_wrong_line(f->name, number, wrong, at);
+    }
+    return SHEET_FILE_WHOLE;
+}
+
+// ---- raw or text
+
+static int begins_as_text(const char *bytes)
+{
+    if (strncmp(bytes, BYTE_ORDER_MARK, 3) == 0) bytes += 3;
+    while (is_space(*bytes)) bytes++;
+    return *bytes == '#' || (is_hex_digit(bytes[0]) && is_hex_digit(bytes[1]));
+}
+
+// Where the first control byte is that is no white space, or the length.
+static size_t control_byte(const uint8_t *bytes, size_t length)
+{
+    size_t k = 0;
+    while (k < length && (!iscntrl(bytes[k]) || isspace(bytes[k]))) k++;
+    return k;
+}
+
+// An empty file is the same sheet either way.
+static sheet_file_status guess_form(sheet_file *f)
+{
+    size_t control = control_byte(f->sheet, f->sheet_len);
+    int is_text_start = begins_as_text((const char *)f->sheet), has_control = control < f->sheet_len;
+    f->form = is_text_start ? SHEET_FILE_HEX : SHEET_FILE_RAW;
+    if (is_text_start != has_control || f->sheet_len == 0) return SHEET_FILE_WHOLE;
+    fprintf(stderr, "%s: raw bytes or hexadecimal text? It begins ", f->name);
+    if (has_control) fprintf(stderr, "as text, but byte %zu is %02X\n", control, f->sheet[control]);
+    else fprintf(stderr, "with byte %02X, not as text, and has no control bytes\n", f->sheet[0]);
+    return SHEET_FILE_UNCLEAR;
+}
+
+// ---- the file
+
+static sheet_file_status print_unread(const sheet_file *f, const char *reason)
+{
+    fprintf(stderr, "%s: cannot be read: %s\n", f->name, reason);
+    return SHEET_FILE_UNREAD;
+}
+
+// The whole file, with a zero behind it for the functions on texts.
+static sheet_file_status read_all(sheet_file *f, FILE *in)
+{
+    for (size_t room = 1 << 16; room <= SHEET_FILE_TOO_LONG; room *= 2) {
+        uint8_t *wider = realloc(f->sheet, room + 1);
+        if (!wider) {
+            fprintf(stderr, "%s: no memory for its %zu bytes or more\n", f->name, f->sheet_len);
+            return SHEET_FILE_NO_MEMORY;
         }
-        text = end ? end + 1 : NULL;
+        f->sheet = wider;
+        f->sheet_len += fread(f->sheet + f->sheet_len, 1, room - f->sheet_len, in);
+        f->sheet[f->sheet_len] = 0;
+        if (ferror(in)) return print_unread(f, strerror(errno));
+        if (f->sheet_len < room) return SHEET_FILE_WHOLE;
     }
-    return 1;
+    return print_unread(f, "no sheet has 64 MiB or more");
 }
 
-// The whole file, with a zero behind it; comments may make it much longer than a sheet.
-static char *read_all(const char *path, size_t *length)
+static sheet_file_status read_path(sheet_file *f, const char *path)
 {
-    FILE *in = fopen(path, "rb");
-    size_t room = 1 << 20;
-    char *all = malloc(room + 1);
-    if (!in || !all) {
-        fprintf(stderr, "%s: %s\n", path, strerror(errno));
-        if (in) fclose(in);
-        free(all);
-        return NULL;
-    }
-    *length = fread(all, 1, room, in);
-    all[*length] = 0;
-    fclose(in);
-    return all;
+    int is_standard_input = strcmp(path, "-") == 0;
+    FILE *in = is_standard_input ? stdin : fopen(path, "rb");
+    f->name = is_standard_input ? "standard input" : path;
+    if (!in) return print_unread(f, strerror(errno));
+    sheet_file_status status = read_all(f, in);
+    if (!is_standard_input) fclose(in);
+    return status;
 }
 
-int sheet_file_read(sheet_file *f, const char *path)
+sheet_file_status sheet_file_read(sheet_file *f, const char *path, sheet_file_form form)
 {
-    size_t length;
-    char *all = read_all(path, &length);
-    int is_read = all != NULL;
-    memset(f, 0, sizeof *f);
-    f->plan_limit = f->subset_limit = 32;
-    if (all && is_text(all, length)) is_read = read_text(f, all, path);
-    else if (all) {
-        f->sheet_len = length < SHEET_FILE_BYTES ? length : SHEET_FILE_BYTES;
-        memcpy(f->sheet, all, f->sheet_len);
-    }
-    free(all);
-    return is_read;
+    *f = (sheet_file){.form = form, .plan_limit = 32, .subset_limit = 32};
+    sheet_file_status status = read_path(f, path);
+    if (status == SHEET_FILE_WHOLE && form == SHEET_FILE_GUESS) status = guess_form(f);
+    if (status == SHEET_FILE_WHOLE && f->form == SHEET_FILE_HEX) status = read_text(f, f->sheet_len);
+    return status;
+}
+
+void sheet_file_free(sheet_file *f)
+{
+    free(f->sheet);
+    f->sheet = NULL;
 }

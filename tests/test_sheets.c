@@ -16,7 +16,7 @@ static bool is_expected(const sheet_file *f, uint64_t plan)
 static bool try_file(const char *path)
 {
     static sheet_file f;
-    if (!sheet_file_read(&f, path)) return false;
+    if (sheet_file_read(&f, path, SHEET_FILE_HEX) != SHEET_FILE_WHOLE) return false;
     if (f.answer_count == 0 || f.plain_count == 0) {
         printf("%s: no line '#: answer' or '#: plain'\n", path);
         return false;
@@ -27,6 +27,7 @@ static bool try_file(const char *path)
     uint64_t plan = expect_call(CALL_GROUNDED, &r, (oracle_answer){f.answers[0][0], f.answers[0][1], f.answers[0][2]}, NULL);
     if (f.answers[0][0] == 1 && !is_expected(&f, plan)) disagree("nuntennis_grounded", &r, "plan %" PRIu64 " shown", plan);
     expect_call(CALL_PLAIN, &r, (oracle_answer){f.plain[0], f.plain[1], f.plain[2]}, NULL);
+    sheet_file_free(&f);
     return true;
 }
 
