@@ -111,7 +111,7 @@ low-walk A R G K a =
     cs : List Placed
     cs = commandsIn (reading K (a .bytes))
 
-decide-passed : {X : Type 0} (A : Algebra X) (f : List X → ℕ) (y : List X → Bool) (K : ℕ) (a : Request) {z : Counts} → check K a ≡ Passed z
+pub decide-passed : {X : Type 0} (A : Algebra X) (f : List X → ℕ) (y : List X → Bool) (K : ℕ) (a : Request) {z : Counts} → check K a ≡ Passed z
     → decide A f y K a ≡ conclude y (walk (tables A (assumed a)) f 0 (commandsIn (reading K (a .bytes))) [])
 unfolding decide
 decide-passed A f y K a h = rw (h, decide)
@@ -121,11 +121,11 @@ decide-refused : {X : Type 0} (A : Algebra X) (f : List X → ℕ) (y : List X �
 unfolding decide
 decide-refused A f y K a h = rw (h, decide)
 
-conclude-stopped : {X : Type 0} (y : List X → Bool) {w : Walked X} {n at : ℕ} → w ≡ stopped n at → conclude y w ≡ refused n at
+pub conclude-stopped : {X : Type 0} (y : List X → Bool) {w : Walked X} {n at : ℕ} → w ≡ stopped n at → conclude y w ≡ refused n at
 unfolding conclude
 conclude-stopped y h = ap (conclude y) h
 
-conclude-walked : {X : Type 0} (y : List X → Bool) {w : Walked X} {us : List (List X)} → w ≡ walked us → conclude y w ≡ answer (y (newest us))
+pub conclude-walked : {X : Type 0} (y : List X → Bool) {w : Walked X} {us : List (List X)} → w ≡ walked us → conclude y w ≡ answer (y (newest us))
 unfolding conclude
 conclude-walked y h = ap (conclude y) h
 

@@ -1,7 +1,9 @@
 pub mod Walks
+pub mod Stops
 pub mod Demands
 pub mod Shown
 pub mod Starred
 pub mod Carried
+pub mod Exceeding
 pub mod Words
 pub mod Outcomes

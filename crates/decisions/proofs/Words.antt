@@ -30,7 +30,7 @@ pub leastIn-cons : (K : ℕ) (x : Valued Pair ℕ) (t : List (Valued Pair ℕ)) 
 unfolding firsts
 leastIn-cons K x t = sum-passing firstWeight (accepting K) x t
 
-answer-settled : (b : Bool) → Settled (answer b)
+pub answer-settled : (b : Bool) → Settled (answer b)
 unfolding answer
 answer-settled true = tt
 answer-settled false = tt
