@@ -7,3 +7,4 @@ pub mod Carried
 pub mod Exceeding
 pub mod Words
 pub mod Outcomes
+pub mod Rooms

@@ -1,10 +1,11 @@
 -- 01's starred sheets, as one table under one theorem: what each decision says of them, and every mask that may be shown, by computation. Assumes nothing.
 use mathlib.Core.Path.{_≡_, refl, sym, ap, ap₂, _∙_, subst}
-use mathlib.Core.Bool.{Bool, true, false, _&&_, true≢false}
+use mathlib.Core.Bool.{Bool, true, false, cond, not, _&&_, true≢false}
 use mathlib.Core.List.{List, [], _∷_, _++_, List·Memᴰ}
-use Prim.Native.Nat.{ℕ}
+use Prim.Native.Nat.{ℕ, zero, suc, _+_, _≤_, _<_}
+use native.Mathlib.Omega.{arith}
 use lib.Dec.{eqb}
-use borrow.Author.Tests.{eqb-true}
+use borrow.Author.Tests.{lt-ltb, le-ltb, eqb-true}
 use Rattle.lists.specs.declared.Order.{Order}
 use Rattle.lists.specs.declared.Order.the-variants.{Less, Same, More}
 use Rattle.lists.specs.Lists.{All, some, every, keep, products, run}
@@ -13,14 +14,14 @@ use Rattle.lists.proofs.Comparisons.{lists-lawful}
 use Rattle.lists.proofs.Members.{and-both}
 use Rattle.labels.specs.Labels.{labelCount}
 use Rattle.labels.specs.Sets.{has, without, replace}
-use Rattle.expression.specs.declared.Kind.the-variants.{Head}
+use Rattle.expression.specs.declared.Checked.the-variants.{Passed, Refused as stop}
 use Rattle.expression.specs.declared.Outcome.{Outcome}
 use Rattle.expression.specs.declared.Outcome.the-variants.{Yes, No, Refused}
-use Rattle.expression.specs.Limits.{workspaceNeed}
+use Rattle.expression.specs.Limits.{tableLimit, workspaceNeed}
 use Rattle.expression.specs.Commands.{oneOperand, twoOperands, isCommand, operandCount, commandOf, readCommand, readAt}
 use Rattle.expression.specs.Reading.{noCounts, newAtoms, newRules, depthAfter, counted, countFault, behind, readFrom, reading}
 use Rattle.expression.specs.Checks.{Request, firstOf, isFaulty, faultNumber, faultPlace, countsOf, isLimit, overlongTest, limitsTest, crampedTest, clashTest, faultTest, unjoinedTest, absentTest, checks, check}
-use Rattle.semantics.specs.Expressions.{Expr, atom, rule, union, connect, fold, uniteNewest, changeNewest, act, actAll, trees}
+use Rattle.semantics.specs.Expressions.{fold, uniteNewest, changeNewest, act, actAll, trees}
 use Rattle.semantics.specs.Programs.{numbers}
 use Rattle.semantics.specs.AnswerSets.{byMasks}
 use Rattle.tables.specs.Algebras.{leaf, tables, table}
@@ -28,9 +29,13 @@ use Rattle.tables.specs.Triples.{markT, markF, markU, relabelTriple, settles, c
 use Rattle.tables.specs.Definitions.{unitePairs, mapPair, triples, pairs, plainAccepts, accepting, groundedAccepts}
 use Rattle.decisions.specs.Decisions.{Verdict, affirmed, denied, refused, assumed, commandsIn, pairsFault, plainFault, walk, answer, conclude, decide, grounded, plain, treeOf, expressionOf}
 use Rattle.decisions.specs.Outcomes.{verdictOf, withoutMask, GroundedOutcome, PlainOutcome}
+use Rattle.decisions.specs.Exceeding.{Exceeds, commands, tableOn}
 use Rattle.decisions.proofs.Walks.{Settled}
+use Rattle.decisions.proofs.Stops.{newestAfter, none-walked}
 use Rattle.decisions.proofs.Demands.{tree}
 use Rattle.decisions.proofs.Shown.{narrowed, shownMasks, shows-listed}
+use Rattle.decisions.proofs.Carried.{decide-passed, conclude-walked}
+use Rattle.decisions.proofs.Exceeding.{fault-full, none-exceeds, exceeding-refused}
 
 sameVerdict : Verdict → Verdict → Bool
 sameVerdict affirmed affirmed = true
@@ -76,6 +81,7 @@ rows : List Row
 rows =
     row listed 32 32 0 0 affirmed (1 ∷ []) affirmed
     ∷ row listed 32 32 2 0 (refused 13 8) [] (refused 13 8)
+    ∷ row listed 32 32 0 2 (refused 13 8) [] (refused 13 8)
     ∷ row circle 32 32 0 0 affirmed (0 ∷ []) affirmed
     ∷ row circle 32 32 1 0 denied [] affirmed
     ∷ row (listed ++ (0x43 ∷ 0 ∷ 1 ∷ [])) 32 32 0 0 denied [] affirmed
@@ -92,10 +98,13 @@ rows =
     ∷ row (0x11 ∷ 0 ∷ []) 1 32 0 1 affirmed (0 ∷ []) affirmed
     ∷ row twins 3 2 0 0 affirmed (0 ∷ []) affirmed
     ∷ row twins 2 2 0 0 (refused 16 4) [] (refused 16 4)
+    ∷ row twins 2 32 0 0 (refused 16 4) [] (refused 16 4)
     ∷ row twins 2 1 0 0 (refused 15 4) [] (refused 16 4)
     ∷ row twins 32 1 0 0 (refused 15 4) [] affirmed
     -- every pair is looked at for 15, those past the P-th too
     ∷ row (0x11 ∷ 2 ∷ 0x11 ∷ 4 ∷ 0x21 ∷ []) 3 1 0 0 (refused 15 4) [] (refused 16 4)
+    -- 31 i j moves i to j: moved the other way, no atom would be put into the rule's head
+    ∷ row (0x11 ∷ 0 ∷ 0x12 ∷ 1 ∷ 0x21 ∷ 0x31 ∷ 0 ∷ 2 ∷ 0x41 ∷ 2 ∷ 1 ∷ []) 32 32 0 0 affirmed (1 ∷ []) affirmed
     ∷ []
 
 -- a refusal shows no mask
@@ -114,19 +123,60 @@ unfolding every right rows row listed circle twins sameVerdict isSame shownRight
     markU table tables leaf some products setOf canon insertAll insert compareLists compareNumbers has without replace
 starred = refl
 
+-- ---- two atoms of one label with G = 1: 15 at 4, whatever P of at least 2 is, in any room that suffices
+
+module _ (P room : ℕ) (low : 2 ≤ P) (high : P ≤ tableLimit) (fits : workspaceNeed P 1 ≤ room) where
+  abbrev narrow : Request
+  narrow = record { bytes = twins; pairLimit = P; subsetLimit = 1; room = room; assumedTrue = 0; assumedFalse = 0 }
+
+  narrow-passes : check labelCount narrow ≡ Passed (record { atoms = 2; rules = 0; depth = 1; deepest = 2 })
+  unfolding twins check checks overlongTest limitsTest crampedTest clashTest faultTest unjoinedTest absentTest isLimit countsOf faultPlace faultNumber isFaulty firstOf reading readFrom behind
+      countFault counted depthAfter newRules newAtoms noCounts readAt readCommand commandOf operandCount isCommand twoOperands oneOperand
+  narrow-passes =
+      ap₂ (λ b c. cond (not (b && true)) (stop 2 0) (cond c (stop 3 0) (Passed (record { atoms = 2; rules = 0; depth = 1; deepest = 2 }))))
+      (ap₂ _&&_ (lt-ltb 0 P (omega arith)) (lt-ltb P (tableLimit + 1) (omega arith))) (le-ltb room (workspaceNeed P 1) fits)
+
+  -- an atom's table has two pairs with a subset at most, that of both a pair with two
+  twins-full : grounded labelCount narrow ≡ refused 15 4
+  unfolding twins pairsFault commandsIn assumed byMasks reading readFrom behind countFault counted depthAfter newRules newAtoms noCounts readAt readCommand commandOf operandCount isCommand twoOperands
+      oneOperand act actAll uniteNewest pairs unitePairs markT markF tables leaf some products setOf canon insertAll insert compareLists compareNumbers has
+  twins-full = exceeding-refused labelCount narrow narrow-passes (record { command = 2; among = omega arith; before = early; number = fault-full P 1 (tableOn labelCount narrow 2) 15 refl (omega arith); place = refl })
+    where
+      early : (k : ℕ) → k < 2 → Exceeds P 1 (tableOn labelCount narrow k) → ⊥
+      early zero l = none-exceeds P 1 (tableOn labelCount narrow 0) (ap (λ b. cond b 16 0) (le-ltb P 2 low))
+      early (suc zero) l = none-exceeds P 1 (tableOn labelCount narrow 1) (ap (λ b. cond b 16 0) (le-ltb P 2 low))
+      early (suc (suc k)) l = absurd (omega arith)
+
+  -- plainly 16 at 4 with P = 2, which is among the rows, and else yes
+  twins-plain : 3 ≤ P → plain labelCount narrow ≡ affirmed
+  unfolding twins plain plainFault plainAccepts allMet answer commandsIn assumed byMasks reading readFrom behind countFault counted depthAfter newRules newAtoms noCounts readAt readCommand commandOf
+      operandCount isCommand twoOperands oneOperand act actAll uniteNewest triples markT markF tables leaf some products canon insertAll insert compareNumbers has
+  twins-plain three =
+      decide-passed (triples labelCount) (plainFault P) (plainAccepts labelCount) labelCount narrow narrow-passes
+      ∙ conclude-walked (plainAccepts labelCount) (none-walked (tables (triples labelCount) (assumed narrow)) (plainFault P) 0 (commands labelCount narrow) [] few)
+    where
+      few : (k : ℕ) → k < 3 → plainFault P (newestAfter (tables (triples labelCount) (assumed narrow)) 0 (commands labelCount narrow) [] (suc k)) ≡ 0
+      few zero l = ap (λ b. cond b 16 0) (le-ltb P 2 low)
+      few (suc zero) l = ap (λ b. cond b 16 0) (le-ltb P 2 low)
+      few (suc (suc zero)) l = ap (λ b. cond b 16 0) (le-ltb P 3 three)
+      few (suc (suc (suc k))) l = absurd (omega arith)
+
+  -- of the call: what its contract gives
+  twins-told : (o : Outcome) → GroundedOutcome labelCount narrow o → verdictOf o ≡ refused 15 4
+  twins-told o c = c .verdict ∙ twins-full
+
 -- ---- the listed table, and with ten labels
 
-kept : Expr
-kept = connect Head 0 1 (union (atom 0 0) (rule 1))
-
-listing-8 : table (pairs 8) (byMasks 0 0) kept ≡ (1 ∷ 131328 ∷ []) ∷ (131328 ∷ []) ∷ []
-unfolding kept byMasks fold pairs mapPair unitePairs connectTriple settles relabelTriple markT markF markU table tables leaf some products setOf canon insertAll insert compareLists compareNumbers has without
-    replace
+listing-8 : table (pairs 8) (byMasks 0 0) (expressionOf 8 listed) ≡ (1 ∷ 131328 ∷ []) ∷ (131328 ∷ []) ∷ []
+unfolding listed commandsIn treeOf expressionOf reading readFrom behind countFault counted depthAfter newRules newAtoms noCounts readAt readCommand commandOf operandCount isCommand twoOperands oneOperand act
+    actAll trees uniteNewest changeNewest byMasks fold pairs mapPair unitePairs connectTriple settles relabelTriple markT markF markU table tables leaf some products setOf canon insertAll insert compareLists
+    compareNumbers has without replace
 listing-8 = refl
 
-listing-10 : table (pairs 10) (byMasks 0 0) kept ≡ (1 ∷ 2098176 ∷ []) ∷ (2098176 ∷ []) ∷ []
-unfolding kept byMasks fold pairs mapPair unitePairs connectTriple settles relabelTriple markT markF markU table tables leaf some products setOf canon insertAll insert compareLists compareNumbers has without
-    replace
+listing-10 : table (pairs 10) (byMasks 0 0) (expressionOf 10 listed) ≡ (1 ∷ 2098176 ∷ []) ∷ (2098176 ∷ []) ∷ []
+unfolding listed commandsIn treeOf expressionOf reading readFrom behind countFault counted depthAfter newRules newAtoms noCounts readAt readCommand commandOf operandCount isCommand twoOperands oneOperand act
+    actAll trees uniteNewest changeNewest byMasks fold pairs mapPair unitePairs connectTriple settles relabelTriple markT markF markU table tables leaf some products setOf canon insertAll insert compareLists
+    compareNumbers has without replace
 listing-10 = refl
 
 -- ---- the same of the calls: what their contracts give for each row
