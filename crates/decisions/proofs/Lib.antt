@@ -8,3 +8,4 @@ pub mod Exceeding
 pub mod Words
 pub mod Outcomes
 pub mod Rooms
+pub mod Numbers
