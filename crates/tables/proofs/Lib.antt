@@ -3,3 +3,4 @@ pub mod Subsets
 pub mod Marks
 pub mod Answers
 pub mod Morphisms
+pub mod Again
