@@ -171,8 +171,8 @@ module _ (K : ℕ) (a : Request) where
     yes = λ w. (found, λ some. otherwise w some (grounded K a) refl);
     shown = λ h. grounded-affirmed K a (subst Settled (sym h) tt) .0 h;
     refuses = (λ r w. subst Settled (r .2) (within-settled w), λ out. refusal out (grounded K a) refl);
-    unchecked = λ n at h. grounded-refused K a h;
-    exceeding = λ z h n at. (refused-exceeding h, exceeding-refused h);
+    byCheck = λ n at h. grounded-refused K a h;
+    byTable = λ z h n at. (refused-exceeding h, exceeding-refused h);
   }
     where
       found : grounded K a ≡ affirmed → NoAnswerSet K a → ⊥

@@ -125,11 +125,14 @@ starred = refl
 
 -- ---- two atoms of one label with G = 1: 15 at 4, whatever P of at least 2 is, in any room that suffices
 
-module _ (P room : ℕ) (low : 2 ≤ P) (high : P ≤ tableLimit) (fits : workspaceNeed P 1 ≤ room) where
-  abbrev narrow : Request
-  narrow = record { bytes = twins; pairLimit = P; subsetLimit = 1; room = room; assumedTrue = 0; assumedFalse = 0 }
+abbrev narrow : ℕ → ℕ → Request
+narrow P room = record { bytes = twins; pairLimit = P; subsetLimit = 1; room = room; assumedTrue = 0; assumedFalse = 0 }
 
-  narrow-passes : check labelCount narrow ≡ Passed (record { atoms = 2; rules = 0; depth = 1; deepest = 2 })
+module _ (P room : ℕ) (low : 2 ≤ P) (high : P ≤ tableLimit) (fits : workspaceNeed P 1 ≤ room) where
+  abbrev asks : Request
+  asks = narrow P room
+
+  narrow-passes : check labelCount asks ≡ Passed (record { atoms = 2; rules = 0; depth = 1; deepest = 2 })
   unfolding twins check checks overlongTest limitsTest crampedTest clashTest faultTest unjoinedTest absentTest isLimit countsOf faultPlace faultNumber isFaulty firstOf reading readFrom behind
       countFault counted depthAfter newRules newAtoms noCounts readAt readCommand commandOf operandCount isCommand twoOperands oneOperand
   narrow-passes =
@@ -137,33 +140,29 @@ module _ (P room : ℕ) (low : 2 ≤ P) (high : P ≤ tableLimit) (fits : worksp
       (ap₂ _&&_ (lt-ltb 0 P (omega arith)) (lt-ltb P (tableLimit + 1) (omega arith))) (le-ltb room (workspaceNeed P 1) fits)
 
   -- an atom's table has two pairs with a subset at most, that of both a pair with two
-  twins-full : grounded labelCount narrow ≡ refused 15 4
+  twins-full : grounded labelCount asks ≡ refused 15 4
   unfolding twins pairsFault commandsIn assumed byMasks reading readFrom behind countFault counted depthAfter newRules newAtoms noCounts readAt readCommand commandOf operandCount isCommand twoOperands
       oneOperand act actAll uniteNewest pairs unitePairs markT markF tables leaf some products setOf canon insertAll insert compareLists compareNumbers has
-  twins-full = exceeding-refused labelCount narrow narrow-passes (record { command = 2; among = omega arith; before = early; number = fault-full P 1 (tableOn labelCount narrow 2) 15 refl (omega arith); place = refl })
+  twins-full = exceeding-refused labelCount asks narrow-passes (record { command = 2; among = omega arith; before = early; number = fault-full P 1 (tableOn labelCount asks 2) 15 refl (omega arith); place = refl })
     where
-      early : (k : ℕ) → k < 2 → Exceeds P 1 (tableOn labelCount narrow k) → ⊥
-      early zero l = none-exceeds P 1 (tableOn labelCount narrow 0) (ap (λ b. cond b 16 0) (le-ltb P 2 low))
-      early (suc zero) l = none-exceeds P 1 (tableOn labelCount narrow 1) (ap (λ b. cond b 16 0) (le-ltb P 2 low))
+      early : (k : ℕ) → k < 2 → Exceeds P 1 (tableOn labelCount asks k) → ⊥
+      early zero l = none-exceeds P 1 (tableOn labelCount asks 0) (ap (λ b. cond b 16 0) (le-ltb P 2 low))
+      early (suc zero) l = none-exceeds P 1 (tableOn labelCount asks 1) (ap (λ b. cond b 16 0) (le-ltb P 2 low))
       early (suc (suc k)) l = absurd (omega arith)
 
   -- plainly 16 at 4 with P = 2, which is among the rows, and else yes
-  twins-plain : 3 ≤ P → plain labelCount narrow ≡ affirmed
+  twins-plain : 3 ≤ P → plain labelCount asks ≡ affirmed
   unfolding twins plain plainFault plainAccepts allMet answer commandsIn assumed byMasks reading readFrom behind countFault counted depthAfter newRules newAtoms noCounts readAt readCommand commandOf
       operandCount isCommand twoOperands oneOperand act actAll uniteNewest triples markT markF tables leaf some products canon insertAll insert compareNumbers has
   twins-plain three =
-      decide-passed (triples labelCount) (plainFault P) (plainAccepts labelCount) labelCount narrow narrow-passes
-      ∙ conclude-walked (plainAccepts labelCount) (none-walked (tables (triples labelCount) (assumed narrow)) (plainFault P) 0 (commands labelCount narrow) [] few)
+      decide-passed (triples labelCount) (plainFault P) (plainAccepts labelCount) labelCount asks narrow-passes
+      ∙ conclude-walked (plainAccepts labelCount) (none-walked (tables (triples labelCount) (assumed asks)) (plainFault P) 0 (commands labelCount asks) [] few)
     where
-      few : (k : ℕ) → k < 3 → plainFault P (newestAfter (tables (triples labelCount) (assumed narrow)) 0 (commands labelCount narrow) [] (suc k)) ≡ 0
+      few : (k : ℕ) → k < 3 → plainFault P (newestAfter (tables (triples labelCount) (assumed asks)) 0 (commands labelCount asks) [] (suc k)) ≡ 0
       few zero l = ap (λ b. cond b 16 0) (le-ltb P 2 low)
       few (suc zero) l = ap (λ b. cond b 16 0) (le-ltb P 2 low)
       few (suc (suc zero)) l = ap (λ b. cond b 16 0) (le-ltb P 3 three)
       few (suc (suc (suc k))) l = absurd (omega arith)
-
-  -- of the call: what its contract gives
-  twins-told : (o : Outcome) → GroundedOutcome labelCount narrow o → verdictOf o ≡ refused 15 4
-  twins-told o c = c .verdict ∙ twins-full
 
 -- ---- the listed table, and with ten labels
 
@@ -254,3 +253,7 @@ told-all (r ∷ rs) h = let q = and-both (right r) (every right rs) h in (told r
 
 starred-told : All Told rows
 starred-told = told-all rows starred
+
+-- and with G = 1 the two atoms of one label, for every P
+twins-told : (P room : ℕ) → 2 ≤ P → P ≤ tableLimit → workspaceNeed P 1 ≤ room → (o : Outcome) → GroundedOutcome labelCount (narrow P room) o → verdictOf o ≡ refused 15 4
+twins-told P room low high fits o c = c .verdict ∙ twins-full P room low high fits

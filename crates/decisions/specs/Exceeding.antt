@@ -66,8 +66,8 @@ module _ (K : ℕ) (a : Request) where
     pub shown : v ≡ affirmed → (m : ℕ) × Shows K a m
     -- else, and only then, it refuses: by the first check that refuses, or by 15 or 16 at the first command whose table exceeds the limits
     pub refuses : ((n : ℕ) × (at : ℕ) × (v ≡ refused n at)) ↔ (WithinLimits → ⊥)
-    pub unchecked : (n at : ℕ) → check K a ≡ Refused n at → v ≡ refused n at
-    pub exceeding : (z : Counts) → check K a ≡ Passed z → (n at : ℕ) → (v ≡ refused n at) ↔ FirstExceeding n at
+    pub byCheck : (n at : ℕ) → check K a ≡ Refused n at → v ≡ refused n at
+    pub byTable : (z : Counts) → check K a ≡ Passed z → (n at : ℕ) → (v ≡ refused n at) ↔ FirstExceeding n at
 
   -- of an outcome: that of its verdict, and yes shows a mask that may be shown
   pub record Demand3Shown (r : Outcome) : Type 0 where
