@@ -4,3 +4,4 @@ pub mod Marks
 pub mod Answers
 pub mod Morphisms
 pub mod Again
+pub mod Exactness

@@ -1,7 +1,7 @@
 -- The triple of an interpretation says what Definitions 4 and 7 say: T and F are the labels with an atom in and outside the interpretation, U the labels
 -- with an unmet rule of the reduct; for any number K of labels. Assumes nothing.
 use mathlib.Core.Path.{_≡_, refl, sym, ap, ap₂, _∙_, subst}
-use mathlib.Core.Bool.{Bool, true, false, cond, not, _&&_, _||_, true≢false, false≢true, or-false, or-true}
+use mathlib.Core.Bool.{Bool, true, false, cond, not, _&&_, _||_, true≢false, false≢true, or-false, or-true, and-false, and-true}
 use mathlib.Core.List.{List, [], _∷_, _++_, map, map-append}
 use Prim.Native.Nat.{ℕ, _+_, _*_, _^_, _≤_, _<_}
 use native.Mathlib.Nat.{le-trans, le-add-right}
@@ -422,6 +422,48 @@ module _ (K : ℕ) where
           let k : has (2 * K + w .0) (tripleOf K e p q) ≡ true = ms .at (2 * K + w .0) ∙ split (2 * K + w .0) ∙ ap (λ b. some (eqb (2 * K + w .0)) (map (atomMark q) (atoms e)) || b) (w .1) ∙ or-true (some (eqb (2 * K + w .0)) (map (atomMark q) (atoms e))) in
           le-ltb (tripleOf K e p q) (2 ^ (2 * K)) (le-trans (pow-mono (le-add-right (2 * K) (w .0))) (has-le (2 * K + w .0) (tripleOf K e p q) k))
 
+  -- ---- what the triple says of each label
+
+  rules-high : (p q : Interpretation) (m : ℕ) → 3 * K ≤ m → (rs : List Rule) → All RuleFits rs → some (eqb m) (ruleMarks p q rs) ≡ false
+  unfolding ruleMarks some
+  rules-high p q m l [] h = refl
+  rules-high p q m l (r ∷ rs) h = step (holds p q r) (rules-high p q m l rs (h .1))
+    where
+      step : (b : Bool) → some (eqb m) (ruleMarks p q rs) ≡ false → some (eqb m) (cond b (ruleMarks p q rs) ((2 * K + r .label) ∷ ruleMarks p q rs)) ≡ false
+      step true k = k
+      step false k = ap₂ _||_ (ne-eqb m (2 * K + r .label) (λ z. let f = h .0 in omega arith)) k
+
+  rules-marked : (g : ℕ) (p q : Interpretation) (rs : List Rule) → some (eqb (2 * K + g)) (ruleMarks p q rs) ≡ some (λ r. eqb (r .label) g && not (holds p q r)) rs
+  unfolding ruleMarks some
+  rules-marked g p q [] = refl
+  rules-marked g p q (r ∷ rs) = step (holds p q r) (rules-marked g p q rs)
+    where
+      N : Bool
+      N = some (λ r. eqb (r .label) g && not (holds p q r)) rs
+
+      step : (b : Bool) → some (eqb (2 * K + g)) (ruleMarks p q rs) ≡ N
+          → some (eqb (2 * K + g)) (cond b (ruleMarks p q rs) ((2 * K + r .label) ∷ ruleMarks p q rs)) ≡ (eqb (r .label) g && not b || N)
+      step true k = k ∙ ap (λ b. b || N) (sym (and-false (eqb (r .label) g)))
+      step false k = ap₂ _||_ (eqb-add (2 * K) g (r .label) ∙ eqb-sym g (r .label) ∙ sym (and-true (eqb (r .label) g))) k
+
+  module _ (e : Expr) (fits : Fits K e) (p q : Interpretation) where
+    pub has-true : (g : ℕ) → g < K → has g (tripleOf K e p q) ≡ some q (labelled g (atoms e))
+    has-true g h = has-T e fits (triple-marks e fits) g h p q
+
+    pub has-false : (g : ℕ) → g < K → has (K + g) (tripleOf K e p q) ≡ some (λ c. not (q c)) (labelled g (atoms e))
+    has-false g h = has-F e fits (triple-marks e fits) g h p q
+
+    pub has-unmet : (g : ℕ) → has (2 * K + g) (tripleOf K e p q) ≡ some (λ r. eqb (r .label) g && not (holds p q r)) (rules e)
+    has-unmet g =
+        triple-marks e fits p q .at (2 * K + g) ∙ some-append (eqb (2 * K + g)) (map (atomMark q) (atoms e)) (ruleMarks p q (rules e))
+        ∙ ap₂ _||_ (atoms-low q (2 * K + g) (omega arith) (atoms e) (atoms-fit e fits)) (rules-marked g p q (rules e))
+
+    pub triple-lt : tripleOf K e p q < 2 ^ (3 * K)
+    triple-lt =
+        has-lt (3 * K) (tripleOf K e p q) (λ m l.
+        triple-marks e fits p q .at m ∙ some-append (eqb m) (map (atomMark q) (atoms e)) (ruleMarks p q (rules e))
+        ∙ ap₂ _||_ (atoms-low q m (omega arith) (atoms e) (atoms-fit e fits)) (rules-high p q m l (rules e) (rules-fit e fits)))
+
 -- the reduct's rules are model by q exactly if the rules hold
 pub reduct-holds : (p q : Interpretation) (rs : List Rule) → every (satisfies q) (reduct p rs) ≡ every (holds p q) rs
 unfolding every reduct holds satisfies strip some
@@ -438,3 +480,24 @@ reduct-holds p q (r ∷ rs) = step (some p (r .negative)) refl (reduct-holds p q
         → every (satisfies q) (cond b (reduct p rs) (strip r ∷ reduct p rs)) ≡ (holds p q r && every (holds p q) rs)
     step true e h = h ∙ ap (λ b. b && every (holds p q) rs) (sym (ap (λ b. N || b || H) e ∙ ap (λ b. b || H) (or-true N)))
     step false e h = ap₂ (λ b c. (N || b || H) && c) (sym e) h
+
+-- and those of one label that are not met are the reduct's that are not met
+pub reduct-unmet : (g : ℕ) (p q : Interpretation) (rs : List Rule)
+    → some (λ r. eqb (r .label) g && not (holds p q r)) rs ≡ some (λ r. eqb (r .label) g && not (satisfies q r)) (reduct p rs)
+unfolding reduct holds satisfies strip some
+reduct-unmet g p q [] = refl
+reduct-unmet g p q (r ∷ rs) = step (some p (r .negative)) refl (reduct-unmet g p q rs)
+  where
+    N : Bool
+    N = some (λ c. not (q c)) (r .positive)
+
+    H : Bool
+    H = some q (r .head)
+
+    U : Bool
+    U = some (λ r. eqb (r .label) g && not (satisfies q r)) (reduct p rs)
+
+    step : (b : Bool) → some p (r .negative) ≡ b → some (λ r. eqb (r .label) g && not (holds p q r)) rs ≡ U
+        → some (λ r. eqb (r .label) g && not (holds p q r)) (r ∷ rs) ≡ some (λ r. eqb (r .label) g && not (satisfies q r)) (cond b (reduct p rs) (strip r ∷ reduct p rs))
+    step true e h = ap₂ (λ b c. eqb (r .label) g && not b || c) (ap (λ b. N || b || H) e ∙ ap (λ b. b || H) (or-true N)) h ∙ ap (λ b. b || U) (and-false (eqb (r .label) g))
+    step false e h = ap₂ (λ b c. eqb (r .label) g && not (N || b || H) || c) e h

@@ -1,3 +1,4 @@
 pub mod Algebras
 pub mod Triples
 pub mod Definitions
+pub mod Exactness
