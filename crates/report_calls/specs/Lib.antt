@@ -1,1 +1,2 @@
 pub mod ReportCalls
+pub mod Parts
