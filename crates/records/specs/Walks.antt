@@ -3,6 +3,7 @@ use mathlib.Core.Path.{_≡_}
 use mathlib.Core.List.{List, [], map}
 use Prim.Native.Nat.{ℕ, zero, suc, _≤_, _<_}
 use lib.ListN.{length, take, getD}
+use Rattle.lists.specs.Lists.{All}
 use Rattle.expression.specs.declared.Outcome.{Outcome}
 use Rattle.expression.specs.declared.Outcome.the-variants as outcome
 use Rattle.expression.specs.Refusals.{badRecord}
@@ -11,6 +12,7 @@ use Rattle.expression.specs.Checks.{Request}
 use Rattle.semantics.specs.Expressions.{actAll, trees}
 use Rattle.tables.specs.Algebras.{tables, table}
 use Rattle.tables.specs.Definitions.{Pair, pairs}
+use Rattle.tables.specs.Exactness.{ExactTables}
 use Rattle.decisions.specs.Decisions.{Verdict, affirmed, denied, refused, assumed, commandsIn, pairsFault, Walked, stopped, walked, walk, grounded}
 use Rattle.decisions.specs.Outcomes.{withoutMask}
 use Rattle.records.specs.declared.Record.{Record}
@@ -58,6 +60,8 @@ module _ (K : ℕ) (a : Request) where
       -- demand 2: those are the tables of the parts that the k commands leave
       pub demand2 : (k : ℕ) (us : List (List Pair)) → tablesAfter k ≡ walked us
           → us ≡ map (table (pairs K) (assumed a)) (actAll trees 0 (map (λ c. c .command) (take k commands)) [])
+      -- and each of those parts has exact tables
+      pub exact : (k : ℕ) → All (λ e. ExactTables K e (assumed a)) (actAll trees 0 (map (λ c. c .command) (take k commands)) [])
       -- the record is at command k, and the words hold the tables of the commands before it
       pub holds : (k : ℕ) (us : List (List Pair)) → k ≤ length commands → tablesAfter k ≡ walked us → walking k ≡ moves K a (placeOf k) us ws
       -- command k exceeds a limit: the decision's refusal is at that command, and each further step answers it and changes nothing
