@@ -90,7 +90,7 @@ extend-old Negative Head ds r c m = m
 extend-old Negative Positive ds r c m = m
 extend-old Negative Negative ds r c m = Memᴰ·append-right ds m
 
-extend-label : (k : Kind) (cs : List ℕ) (r : Rule) → extend k cs r .label ≡ r .label
+pub extend-label : (k : Kind) (cs : List ℕ) (r : Rule) → extend k cs r .label ≡ r .label
 unfolding extend
 extend-label Head cs r = refl
 extend-label Positive cs r = refl

@@ -20,6 +20,7 @@ use Rattle.semantics.specs.Expressions.{Expr, atom, rule, union, relabel, conne
 use Rattle.semantics.specs.Programs.{Atom, Rule, relabelAtom, relabelRule, atoms, rules, labelled, extend, connectRule}
 use Rattle.semantics.specs.AnswerSets.{Interpretation, satisfies, strip, reduct}
 use Rattle.semantics.proofs.Stacks.{Fits}
+use Rattle.semantics.proofs.Again.{extend-label}
 use Rattle.tables.specs.Triples.{markT, markF, markU, relabelTriple, settles, connectTriple, allMet}
 use Rattle.tables.proofs.Subsets.{tripleOf}
 
@@ -55,12 +56,6 @@ holds-extend Negative cs p q r =
     front : (a b h c : Bool) → (a || (h || b) || c) ≡ (h || (a || b || c))
     front a b true c = ap (λ x. x || c) (or-true a)
     front a b false c = refl
-
-extend-label : (k : Kind) (cs : List ℕ) (r : Rule) → extend k cs r .label ≡ r .label
-unfolding extend
-extend-label Head cs r = refl
-extend-label Positive cs r = refl
-extend-label Negative cs r = refl
 
 connect-label : (k : Kind) (j : ℕ) (cs : List ℕ) (r : Rule) → connectRule k j cs r .label ≡ r .label
 unfolding connectRule
