@@ -1,7 +1,7 @@
 -- After a grounded decision that was not refused, the report after the last command is of the final table, and an area's words have room for it. Assumes nothing.
-use mathlib.Core.Path.{_≡_, refl, sym, ap, ap₂, _∙_, subst}
-use mathlib.Core.Bool.{Bool, true, false, cond, _||_, true≢false}
-use mathlib.Core.List.{List, [], _∷_, _++_}
+use mathlib.Core.Path.{_≡_, refl, sym, ap, _∙_, subst}
+use mathlib.Core.Bool.{Bool, true, false, cond, true≢false}
+use mathlib.Core.List.{List, [], _∷_}
 use Prim.Native.Nat.{ℕ, zero, suc, _+_, _*_, _≤_, _<_}
 use native.Mathlib.Nat.{le-trans, mul-le-mul, suc-mul}
 use native.Mathlib.Decide.{decLe}
@@ -31,14 +31,14 @@ use Rattle.expression.proofs.Accepted.{check-accepted}
 use Rattle.expression.proofs.Remaining.{Remains, Next, remains-start, remains-next, remains-end}
 use Rattle.semantics.specs.Expressions.{Operations, act}
 use Rattle.tables.specs.Algebras.{Algebra, tables, table}
-use Rattle.tables.specs.Definitions.{Pair, ownTriple, subsets, pairs, groundedAccepts}
-use Rattle.decisions.specs.Decisions.{Verdict, refused, assumed, commandsIn, newest, Walked, stopped, walked, walk, conclude, decide, grounded, pairsFault, expressionOf}
+use Rattle.tables.specs.Definitions.{Pair, subsets, pairs, groundedAccepts}
+use Rattle.decisions.specs.Decisions.{Verdict, refused, assumed, commandsIn, newest, Walked, stopped, walked, walk, conclude, decide, grounded, pairsFault}
 use Rattle.decisions.proofs.Walks.{Settled, check-readable, walked-one}
 use Rattle.leaves.specs.declared.Tables.the-variants.{Pairs}
 use Rattle.walks.specs.Walks.{before}
 use Rattle.walks.proofs.Before.{before-more, before-nil}
 use Rattle.reports.specs.Reports.{entryWords, reportOf}
-use Rattle.reporting.specs.Reporting.{isBefore, startsAt, tableAt, newestIn, askedTable}
+use Rattle.reporting.specs.Reporting.{isBefore, startsAt, tableAt, askedTable}
 use Rattle.report_calls.specs.Parts.{finalTable}
 use Rattle.report_calls.proofs.Asked.{starts-within}
 

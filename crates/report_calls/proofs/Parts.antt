@@ -2,7 +2,7 @@
 use mathlib.Core.Path.{_≡_, refl, sym, ap, _∙_, subst}
 use mathlib.Core.Bool.{Bool, true, false, cond}
 use mathlib.Core.List.{List, [], _∷_, map}
-use Prim.Native.Nat.{ℕ, zero, suc, _+_, _<_}
+use Prim.Native.Nat.{ℕ, _+_, _<_}
 use native.Mathlib.Omega.{arith}
 use lib.Dec.{ltb}
 use lib.ListN.{length}
@@ -14,11 +14,11 @@ use Rattle.expression.specs.declared.Checked.{Checked}
 use Rattle.expression.specs.declared.Checked.the-variants.{Passed, Refused as Stopped}
 use Rattle.expression.specs.Commands.{Suits}
 use Rattle.expression.specs.Refusals.{offset}
-use Rattle.expression.specs.Reading.{newAtoms, Placed, whole, noCounts, countFault, reading}
+use Rattle.expression.specs.Reading.{newAtoms, Placed, noCounts, countFault, reading}
 use Rattle.expression.specs.Checks.{Request, check}
 use Rattle.expression.proofs.Checks.{Joined}
 use Rattle.expression.proofs.Accepted.{check-accepted}
-use Rattle.expression.proofs.Remaining.{Next, remains-start, remains-next}
+use Rattle.expression.proofs.Remaining.{remains-start, remains-next}
 use Rattle.semantics.specs.Expressions.{Expr, act, actAll, trees, uniteNewest, changeNewest}
 use Rattle.semantics.proofs.Readings.{commandsOf, reading-sound}
 use Rattle.tables.specs.Algebras.{Algebra, tables, table}
