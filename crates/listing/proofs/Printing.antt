@@ -1,27 +1,22 @@
--- Laws of a refusal by either decision, of the last start, of a report's pairs one after the other, and of what a report leaves. Assumes nothing.
+-- Laws of a refusal by either decision, of the last start, and of a report's pairs one after the other. Assumes nothing.
 use mathlib.Core.Path.{_≡_, refl, sym, ap, _∙_}
-use mathlib.Core.Bool.{Bool, true, false, cond, _||_}
+use mathlib.Core.Bool.{Bool, true, false, _||_}
 use mathlib.Core.List.{List, [], _∷_, _++_, append-assoc}
 use Prim.Native.Nat.{ℕ, zero, suc, _+_, _-_, _≤_, _<_}
 use native.Mathlib.Omega.{arith}
-use lib.Dec.{ltb}
 use lib.ListN.{length, getD, drop, length-append, length-drop}
 use lib.Seq.{drop-drop, getD-drop, drop-at}
 use Rattle.expression.specs.declared.Command.{Command}
 use Rattle.expression.specs.declared.Read.the-variants.{Command as Got, Fault}
-use Rattle.expression.specs.Refusals.{reportShort}
 use Rattle.expression.specs.Commands.{readAt}
 use Rattle.expression.specs.declared.Outcome.{Outcome}
 use Rattle.expression.specs.Checks.{Request}
 use Rattle.expression.proofs.Commands.{read-ends}
-use Rattle.tables.specs.Definitions.{Pair, ownTriple, subsets}
+use Rattle.tables.specs.Definitions.{ownTriple, subsets}
 use Rattle.decisions.specs.Decisions.{Verdict, affirmed, denied, refused, grounded, plain}
 use Rattle.decisions.specs.Outcomes.{verdictOf, withoutMask, GroundedOutcome, PlainOutcome}
 use Rattle.leaves.specs.declared.Tables.the-variants.{Pairs}
 use Rattle.reports.specs.Reports.{entryWords, reportOf}
-use Rattle.reporting.specs.declared.Report.{Report}
-use Rattle.reporting.specs.declared.Report.the-variants.{Written, Refused}
-use Rattle.reporting.specs.Reporting.{Asked, refusedAt, tableAt, reportAnswer, reportBuffer}
 use Rattle.listing.specs.Listing.{isRefusal, eitherRefused, lastFrom, lastStart, PairsFrom}
 
 -- ---- a refusal by either decision
@@ -89,13 +84,3 @@ pair-next at n words l (x ∷ t, rest, e, g) = (within, (t, rest, next, omega ar
         let e : at + 2 + getD words (at + 1) 0 ≡ at + suc (suc (length (subsets x))) = omega (arith, count) in
         ap (λ (i : ℕ). drop i words) e
         ∙ sym (drop-drop (suc (suc (length (subsets x)))) at words) ∙ ap (drop (suc (suc (length (subsets x))))) here ∙ drop-at (subsets x) (reportOf Pairs t ++ rest) (length (subsets x)) refl
-
--- ---- the buffer of a report that was written
-
-pub written-pairs : (words words′ : List ℕ) (at : ℕ) (a : Asked Pair) (r : Report) (n k : ℕ) → r ≡ reportAnswer (reportOf Pairs) (length words) at a → r ≡ Written n k → words′ ≡ reportBuffer (reportOf Pairs) words a → PairsFrom 0 n words′
-written-pairs words words′ at (refusedAt m p) r n k e w f = let q : _≡_ {A = ℕ} 0 1 = cc in absurd (omega arith)
-written-pairs words words′ at (tableAt t) r n k e w f = by (ltb (length words) (length (reportOf Pairs t))) (sym w ∙ e) f
-  where
-    by : (b : Bool) → Written n k ≡ cond b (Refused reportShort at) (Written (length t) (length (reportOf Pairs t))) → words′ ≡ cond b words (reportOf Pairs t ++ drop (length (reportOf Pairs t)) words) → PairsFrom 0 n words′
-    by true e f = let q : _≡_ {A = ℕ} 0 1 = cc in absurd (omega arith)
-    by false e f = (t, drop (length (reportOf Pairs t)) words, f, cc)

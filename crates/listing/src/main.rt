@@ -1,11 +1,17 @@
 // Reads a sheet from standard input and prints both decisions, then the table after the last command (01, Listing). Both limits are 32, and nothing
 // is assumed.
 ghost use mathlib.Core.Path.{_≡_};
+ghost use mathlib.Core.Bool.{false};
+ghost use mathlib.Core.List.{_++_};
 ghost use Prim.Native.Nat.{_≤_, _<_};
-ghost use lib.ListN.{length};
+ghost use lib.ListN.{length, drop};
 ghost use Rattle.labels.specs.Labels.{labelCount};
+ghost use Rattle.expression.specs.Limits.{areaWords};
 ghost use Rattle.decisions.specs.Outcomes.{verdictOf};
 ghost use Rattle.checks.specs.Requests.{request};
+ghost use Rattle.leaves.specs.declared.Tables.the-variants.{Pairs};
+ghost use Rattle.reports.specs.Reports.{reportOf};
+ghost use Rattle.report_calls.specs.Parts.{finalTable};
 ghost use Rattle.listing.specs.Listing.{isRefusal, eitherRefused, lastStart, PairsFrom};
 use advances::AREAS;
 use calls::grounded;
@@ -101,12 +107,27 @@ fn last_start(s: &[u8]) -> usize
     }
 }
 
-// The table that the grounded decision was made from; it met the limits, so that a buffer of one area has room for it.
-fn print_table(s: &[u8], ws: &mut [u32], words: &mut [u32]) {
-    let r = report(s, last_start(s), LIMIT, LIMIT, 0, 0, ws, words);
+// The report of the table that the grounded decision was made from, and how many pairs it has. That table met the limits, so that a buffer of one area
+// has room for it: the report is always written.
+fn write_table(s: &[u8], ws: &mut [u32], words: &mut [u32]) -> u64
+    requires { ⌜ eitherRefused labelCount (request (now s) 32 32 (length (now ws)) 0 0) ≡ false ⌝ }
+    requires { ⌜ areaWords 32 32 ≤ length (now words) ⌝ }
+    ensures { λ n. ⌜ n ≡ length (finalTable labelCount (now (s .entry)) 0 0) ⌝ }
+    ensures { λ n. ⌜ now (words .exit) ≡ reportOf Pairs (finalTable labelCount (now (s .entry)) 0 0) ++ drop (length (reportOf Pairs (finalTable labelCount (now (s .entry)) 0 0))) (now (words .entry)) ⌝ }
+{
+    let at = last_start(s);
+    let r = report(s, at, LIMIT, LIMIT, 0, 0, ws, words);
     let Report::Written(n, _) = r else {
-        return;
+        return 0;
     };
+    n
+}
+
+fn print_table(s: &[u8], ws: &mut [u32], words: &mut [u32])
+    requires { ⌜ eitherRefused labelCount (request (now s) 32 32 (length (now ws)) 0 0) ≡ false ⌝ }
+    requires { ⌜ areaWords 32 32 ≤ length (now words) ⌝ }
+{
+    let n = write_table(s, ws, words);
     io::write_all(STDOUT_FILENO, b"table ");
     io::print_decimal(STDOUT_FILENO, n);
     end_line();
@@ -141,7 +162,9 @@ fn print_decisions(s: &[u8], ws: &mut [u32]) -> bool
     is_refused(b)
 }
 
-fn print_listing(s: &[u8], ws: &mut [u32], words: &mut [u32]) {
+fn print_listing(s: &[u8], ws: &mut [u32], words: &mut [u32])
+    requires { ⌜ areaWords 32 32 ≤ length (now words) ⌝ }
+{
     if print_decisions(s, ws) {
         return;
     }
