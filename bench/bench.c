@@ -1,5 +1,5 @@
 // Grounded decisions side by side in one run: the archive, the hand-written C, and clingo where it is installed.
-#define _POSIX_C_SOURCE 200809L
+#define _DEFAULT_SOURCE
 #include "clingo.h"
 #include "families.h"
 #include "nuntennis.h"
@@ -9,17 +9,31 @@
 #include <stdio.h>
 #include <stdlib.h>
 #include <string.h>
+#include <sys/resource.h>
 #include <time.h>
 
-enum { RUNS = 7 };
+enum { RUNS = 7, LONG_RUNS = 3 };
 
 static uint32_t *workspace;
 
-static double seconds(void)
+static double seconds_by(clockid_t clock)
 {
     struct timespec t;
-    clock_gettime(CLOCK_MONOTONIC, &t);
+    clock_gettime(clock, &t);
     return (double)t.tv_sec + (double)t.tv_nsec * 1e-9;
+}
+
+static double seconds_of(struct timeval t)
+{
+    return (double)t.tv_sec + (double)t.tv_usec * 1e-6;
+}
+
+// Processor time of this process and of the programs it waited for: other work on the machine is not in it.
+static double seconds(void)
+{
+    struct rusage programs;
+    getrusage(RUSAGE_CHILDREN, &programs);
+    return seconds_by(CLOCK_PROCESS_CPUTIME_ID) + seconds_of(programs.ru_utime) + seconds_of(programs.ru_stime);
 }
 
 // ---- the four ways to decide
@@ -122,24 +136,35 @@ static double time_run(decide *way, const question *q, size_t n, unsigned times)
     return (seconds() - start) / ((double)times * (double)n);
 }
 
-// So many times that a run takes some 20 ms.
-static unsigned times_of(decide *way, const question *q, size_t n)
+// How long it takes once, by the clock.
+static double once(decide *way, const question *q, size_t n)
 {
-    double once = time_run(way, q, n, 1) * (double)n;
-    return once > 0.02 ? 1 : (unsigned)(0.02 / once) + 1;
+    double start = seconds_by(CLOCK_MONOTONIC);
+    time_run(way, q, n, 1);
+    return seconds_by(CLOCK_MONOTONIC) - start;
 }
 
-// Medians; the ways take turns, so that a busy machine is busy for all of them.
+// So many times that a run takes some 20 ms.
+static unsigned times_of(double took)
+{
+    return took > 0.02 ? 1 : (unsigned)(0.02 / took) + 1;
+}
+
+// Medians; the ways take turns, so that a busy machine is busy for all of them. A family that takes long is run less often.
 static void time_family(const question *q, size_t n, double *median)
 {
     double run[WAYS][RUNS];
-    unsigned times[WAYS];
-    for (unsigned way = 0; way < WAYS; way++) times[way] = is_there(way) ? times_of(ways[way], q, n) : 0;
-    for (unsigned k = 0; k < RUNS; k++)
+    unsigned times[WAYS], runs = RUNS;
+    for (unsigned way = 0; way < WAYS; way++) {
+        double took = is_there(way) ? once(ways[way], q, n) : 1;
+        times[way] = times_of(took);
+        if (took > 1) runs = LONG_RUNS;
+    }
+    for (unsigned k = 0; k < runs; k++)
         for (unsigned way = 0; way < WAYS; way++) run[way][k] = is_there(way) ? time_run(ways[way], q, n, times[way]) : 0;
     for (unsigned way = 0; way < WAYS; way++) {
-        qsort(run[way], RUNS, sizeof(double), compare_times);
-        median[way] = run[way][RUNS / 2];
+        qsort(run[way], runs, sizeof(double), compare_times);
+        median[way] = run[way][runs / 2];
     }
 }
 
@@ -183,8 +208,8 @@ static void bench_family(const instance *x, size_t n)
 
 static void print_head(void)
 {
-    printf("Milliseconds per grounded decision, median of %d runs. Each decision reads the sheet, checks, walks and clears the workspace.\n",
-           RUNS);
+    printf("Milliseconds of processor time per grounded decision, median of %d runs (%d where one takes over a second).\n", RUNS, LONG_RUNS);
+    printf("Each decision reads the sheet, checks, walks and clears the workspace.\n");
     if (clingo_has_library()) printf("clingo %s in this process: grounding and solving of the same policy as text.\n", clingo_version_text());
     else printf("No clingo library (CLINGO_LIBRARY=path of libclingo.so.3, Debian package gringo): its columns are empty.\n");
     if (clingo_has_program()) printf("clingo as a program: the same with its start, timed from outside.\n");
@@ -193,17 +218,37 @@ static void print_head(void)
            "/ clingo", "program");
 }
 
+// By the archive alone, once.
+static int bench_longest(void)
+{
+    static instance x;
+    uint64_t plan;
+    question q = {&x, NULL};
+    longest_family(&x);
+    printf("%s, %zu bytes, P = G = %" PRIu64 ": ", x.family, x.sheet_len, x.plan_limit);
+    fflush(stdout);
+    double start = seconds();
+    int said = by_archive(&q, &plan);
+    printf("%s in %.0f s of processor time\n", said == 1 ? "yes" : said == 0 ? "no" : "refused", seconds() - start);
+    return said < 0;
+}
+
+// bench [--without-clingo | --longest] [family]: all families, or those whose names begin so.
 int main(int arguments, char **argument)
 {
     static instance x[INSTANCES];
+    int options = arguments > 1 && argument[1][0] == '-';
+    const char *option = options ? argument[1] : "", *name = arguments > 1 + options ? argument[1 + options] : "";
     size_t n = all_families(x);
+    n += long_families(x + n);
     workspace = calloc(NUNTENNIS_WORKSPACE_WORDS(1024, 1024), sizeof *workspace);
     memset(workspace, 1, NUNTENNIS_WORKSPACE_WORDS(1024, 1024) * sizeof *workspace);
-    if (arguments < 2 || strcmp(argument[1], "--without-clingo") != 0) clingo_begin();
+    if (strcmp(option, "--longest") == 0) return bench_longest();
+    if (strcmp(option, "--without-clingo") != 0) clingo_begin();
     print_head();
     for (size_t k = 0, end; k < n; k = end) {
         for (end = k; end < n && x[end].family == x[k].family; end++) {}
-        bench_family(&x[k], end - k);
+        if (strncmp(x[k].family, name, strlen(name)) == 0) bench_family(&x[k], end - k);
     }
     printf("bench: all answers agree\n");
     return 0;

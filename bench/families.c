@@ -1,6 +1,8 @@
 // Sheets by family: each policy is written copy by copy, with the copies that later rules still name in groups of their own.
 #include "families.h"
 
+#include "nuntennis.h"
+
 #include <stdio.h>
 #include <stdlib.h>
 
@@ -229,6 +231,46 @@ static void balanced(instance **next, const char *family, unsigned left, unsigne
     put_link(x, BARRING, 1, DONE);
 }
 
+// ---- heavy joins: blocks over the same groups, so that each join meets as many pairs, with as many subsets, as the one before
+
+enum { GATHERED = 7, BLOCKS = 3 };
+
+// A copy with a rule of its own in the group given, which stays there; the copy is gathered with the others.
+static void copy_with_rule(instance *x, unsigned code, unsigned group)
+{
+    unsigned hand = group > 0 ? group - 1 : 1;
+    leaf(x, 0x11, hand);
+    leaf(x, 0x12, group);
+    join(x);
+    put_link(x, code, hand, group);
+    move(x, hand, GATHERED);
+}
+
+// A free copy that bars its rule doubles the pairs: the rule is unmet for a plan and all its smaller plans, or for none of them. A copy
+// pinned in that its rule needs doubles the subsets, a group of two pinned in trebles them, and one of three free copies may treble both.
+static void block(instance *x, unsigned barring, unsigned needed, unsigned pinned, unsigned open)
+{
+    copy_with_rule(x, BARRING, 0);
+    for (unsigned k = 1; k < barring + needed; k++) {
+        copy_with_rule(x, k < barring ? BARRING : NEEDED, k);
+        join(x);
+    }
+    for (unsigned k = 0; k < 2 * pinned; k++) copy(x, GATHERED - k / 2);
+    for (unsigned k = 0; k < 3 * open; k++) copy(x, GATHERED - pinned - k / 3);
+}
+
+// A block has a rule in every group and, without an open group, 2 to the power of barring pairs. So has each join of blocks.
+static void heavy(instance **next, const char *family, uint64_t limit, unsigned barring, unsigned open)
+{
+    instance *x = begin(next, family, limit, limit);
+    unsigned needed = NUNTENNIS_GROUPS - barring, pinned = barring - 3, pins = needed + 2 * pinned;
+    for (unsigned k = 0; k < BLOCKS; k++) {
+        block(x, barring, needed, pinned, open);
+        if (k > 0) join(x);
+        x->pins_in |= (((uint64_t)1 << pins) - 1) << (k * (barring + pins + 3 * open) + barring);
+    }
+}
+
 size_t all_families(instance *instances)
 {
     instance *next = instances;
@@ -248,5 +290,19 @@ size_t all_families(instance *instances)
     for (uint64_t seed = 1; seed <= 8; seed++) random_policy(&next, "random, 40 copies", 40, seed);
     balanced(&next, "balanced join, 128 by 32 pairs", 7, 5, 1);
     balanced(&next, "balanced join, 243 by 243 pairs", 5, 5, 2);
+    heavy(&next, "heavy joins, 32 by 32 pairs", 32, 5, 0);
     return (size_t)(next - instances);
+}
+
+size_t long_families(instance *instances)
+{
+    instance *next = instances;
+    heavy(&next, "heavy joins, 128 by 128 pairs", 128, 7, 0);
+    heavy(&next, "heavy joins, 256 by 256 pairs", 256, 8, 0);
+    return (size_t)(next - instances);
+}
+
+void longest_family(instance *x)
+{
+    heavy(&x, "heavy joins, 769 by 769 pairs", 1024, 8, 1);
 }

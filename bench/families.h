@@ -12,8 +12,12 @@ typedef struct {
     uint64_t plan_limit, subset_limit, pins_in, pins_out;
 } instance;
 
-// Fills in all of them; their number. room is at least INSTANCES.
+// Fill in their sheets, at most INSTANCES together; how many there are.
 enum { INSTANCES = 80 };
-size_t all_families(instance *instances);
+size_t all_families(instance *instances);  // all that take milliseconds
+size_t long_families(instance *instances); // the benchmark's own: a decision takes seconds
+
+// One sheet of 404 bytes whose decision takes minutes.
+void longest_family(instance *x);
 
 #endif
