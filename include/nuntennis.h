@@ -1,10 +1,24 @@
 /*
  * Nuntennis: does a backup policy have a grounded plan?
  *
- * This header is the manual. Link with libnuntennis.a (pkg-config: nuntennis).
+ * This header is the manual. Link with libnuntennis.a (pkg-config: nuntennis), an archive for x86-64 Linux.
  *
  * The library allocates nothing, keeps no state, does no input or output and never aborts: every call ends with an answer for any
- * bytes, limits, pins and lengths. Calls on separate buffers may run at the same time. A call uses under NUNTENNIS_STACK_BYTES of stack.
+ * bytes, limits, pins and lengths. Calls on separate buffers may run at the same time. A call may take long (see TIME), and uses under
+ * NUNTENNIS_STACK_BYTES of stack (see STACK).
+ *
+ *
+ * WHAT IS PROVED
+ *
+ * Proved of the library's source, function by function, for all arguments: each call ends, touches no memory but its own and what it is
+ * lent, gives the answer that this manual says, and leaves every lent word as it says.
+ *
+ * Tested and not proved: that a call stays within NUNTENNIS_STACK_BYTES, and that calls share no state, so that they may run at the same
+ * time (tests/test_stack.c, both); that the declarations below are those of the library's functions (every test in tests/ calls through
+ * them). The compiler behind the archive is trusted; tests/ compares the archive with an oracle and with an implementation in C. The
+ * archive calls memcpy and memset and nothing else (nm -u), and has no data of its own to write (size).
+ *
+ * All of this is for x86-64 Linux with the System V ABI.
  *
  *
  * THE SHEET
@@ -33,9 +47,10 @@
  *   plan_limit  (P)            the most pairs that a table may have, 1 to 1024
  *   subset_limit (G)           the most subsets that a pair may have, 1 to 1024
  *   pins_in, pins_out          bit c is copy c: the plan has every copy of pins_in and none of pins_out
- *   workspace, workspace_len   lent words, at least NUNTENNIS_WORKSPACE_WORDS(P, G); they may hold anything before a decision, report or start
+ *   workspace, workspace_len   lent words, at least NUNTENNIS_WORKSPACE_WORDS(P, G); they may hold anything before a decision, a report or
+ *                              start
  *   answer, answer_len         at least three words (see ANSWERS)
- *   record                     walks: a running record, lent; it may hold anything before start
+ *   record                     walks: a running record, lent; before start it is initialised memory of any value, as {0}: start reads it
  *   asked                      reports: the offset in the sheet of the command asked
  *   report, report_len         reports: lent words for the report; they may hold anything before a call
  *
@@ -108,6 +123,48 @@
  *   any other                  unchanged                       unchanged
  *
  * Words of workspace past the first NEED are never read or written. Words of report are never read.
+ *
+ *
+ * TIME
+ *
+ * Every call ends, but one command can take long. What it takes grows with the tables that it works on:
+ *
+ *   21               for each pair of one part and each of the other: (subsets of the one + 1) * (subsets of the other + 1) steps, and
+ *                    what they make is put in order; in all at most P*P*(G+1)*(G+1) steps
+ *   31, 41, 42, 43   for each pair: subsets + 1 steps, and what they make is put in order
+ *   11, 12           at most two pairs
+ *
+ * A join that is refused can take as long: 16 is said once no pair gave 15. plain and plain_report have no subsets, so a join takes
+ * P*P steps at most. Beside its commands a decision, a report or start zeroes NEED words, and each step and verdict reads them all.
+ *
+ * Some sheets are built to take long: three blocks of copies, some of them pinned in, whose tables come near both limits, and two joins of
+ * them. One nuntennis_grounded took these seconds of processor time, on an AMD EPYC that was busy with other work:
+ *
+ *   P = G   sheet       each of the joins                      seconds          command (of the library's source)
+ *   32      323 bytes   32 by 32 pairs, 29 subsets at most     0.007 to 0.014   make bench
+ *   128     359 bytes   128 by 128 pairs, 107 subsets          0.7 to 1.4       make bench
+ *   256     377 bytes   256 by 256 pairs, 242 subsets          11 to 16         make bench
+ *   1024    404 bytes   769 by 769 pairs, 728 subsets          114              target/c/bin/bench --longest
+ *
+ * That is 1 to 9 nanoseconds a step. Limits twice as large allow 16 times the steps. The limits 1024 allow a join 17 times the steps that
+ * one of the last row has: minutes are not the most that one command can take.
+ *
+ * For sheets, or pins, that you do not trust:
+ *
+ *   - Give small limits first: with 32 and 32 such a decision takes milliseconds. Give larger ones where the answer is 15 or 16 and
+ *     there is time to spend.
+ *   - A walk (see ONE COMMAND A CALL) can be stopped between two commands, but not within one, and one join can be all of its time.
+ *   - So make the call in a process, or a thread, that can be given up. The library holds no lock, memory or file: a call that is ended
+ *     half way leaves nothing behind but the buffers it was lent, with any words in them.
+ *
+ *
+ * STACK
+ *
+ * tests/test_stack.c measures what a call uses: nuntennis_grounded 95,864 bytes, any other under 23,000. NUNTENNIS_STACK_BYTES is for the
+ * call alone. A thread's stack holds more: the C library's data of the thread with its thread-local storage (4,464 bytes in that test, by
+ * glibc 2.36; more in a host that has more), the host's own frames above the call, those of a signal handler, and the guard where it is
+ * taken from the same size. So a thread of just NUNTENNIS_STACK_BYTES is too small: it overflowed when tried. Give a thread that makes
+ * calls NUNTENNIS_THREAD_STACK_BYTES, as the test does, and what the host needs over 100,000 bytes on top.
  */
 #ifndef NUNTENNIS_H
 #define NUNTENNIS_H
@@ -126,7 +183,8 @@ extern "C" {
 #define NUNTENNIS_PARTS 8           /* the most parts at a time */
 #define NUNTENNIS_LIMIT 1024        /* the most that P and G may be */
 #define NUNTENNIS_ANSWER_WORDS 3
-#define NUNTENNIS_STACK_BYTES 98304
+#define NUNTENNIS_STACK_BYTES 98304         /* the most stack that a call uses: see STACK */
+#define NUNTENNIS_THREAD_STACK_BYTES 262144 /* recommended for a thread that makes calls */
 
 /* Words of 32 bits that a call needs as workspace, for P and G from 1 to 1024: a constant expression if they are. */
 #define NUNTENNIS_WORKSPACE_WORDS(P, G) ((size_t)9 * (size_t)(P) * ((size_t)(G) + 2))
@@ -220,8 +278,6 @@ uint64_t nuntennis_plain(const uint8_t *sheet, size_t sheet_len,
  *     nuntennis_report(sheet, sizeof sheet, 5, 32, 32, 0, 0, workspace, NUNTENNIS_WORKSPACE_WORDS(32, 32),
  *                      report, NUNTENNIS_REPORT_WORDS(32, 32), answer, 3);
  */
-#define NUNTENNIS_HAS_REPORT 1 /* for hosts that may meet an older header */
-
 uint64_t nuntennis_report(const uint8_t *sheet, size_t sheet_len, size_t asked,
                           uint64_t plan_limit, uint64_t subset_limit, uint64_t pins_in, uint64_t pins_out,
                           uint32_t *workspace, size_t workspace_len,
@@ -239,7 +295,7 @@ uint64_t nuntennis_plain_report(const uint8_t *sheet, size_t sheet_len, size_t a
  *
  * For a progress bar: a running record, lent by the host, advances by exactly one command at each call.
  *
- *     nuntennis_record record;
+ *     nuntennis_record record = {0};
  *     nuntennis_start(&record, workspace, words, sheet, sheet_len, P, G, 0, 0, answer, 3);
  *     while (answer[0] == NUNTENNIS_MOVED) {
  *         draw(record.place, sheet_len);
@@ -264,8 +320,6 @@ uint64_t nuntennis_plain_report(const uint8_t *sheet, size_t sheet_len, size_t a
  * nuntennis_step      checks 1 to 13, then 18; runs the command at the record's place: moved. At the end: ended. 15 and 16 stay there.
  * nuntennis_verdict   checks 1 to 13, then 18, also where the place is not the end; reads yes or no from the final table.
  */
-#define NUNTENNIS_HAS_WALK 1
-
 typedef struct nuntennis_record {
     uint64_t place;     /* offset of the next command; sheet_len at the end */
     uint64_t tables;    /* number of tables */

@@ -98,16 +98,12 @@ static uint64_t make_call(call c, const oracle_request *r, const buffers *b)
     case CALL_PLAIN:
         return nuntennis_plain(b->sheet, r->sheet_len, r->plan_limit, r->subset_limit, r->pins_in, r->pins_out, b->workspace,
                                r->workspace_len, b->answer, r->answer_len);
-#ifdef NUNTENNIS_HAS_REPORT
     case CALL_REPORT:
         return nuntennis_report(b->sheet, r->sheet_len, r->asked, r->plan_limit, r->subset_limit, r->pins_in, r->pins_out, b->workspace,
                                 r->workspace_len, b->report, r->report_len, b->answer, r->answer_len);
-    case CALL_PLAIN_REPORT:
+    default:
         return nuntennis_plain_report(b->sheet, r->sheet_len, r->asked, r->plan_limit, r->subset_limit, r->pins_in, r->pins_out,
                                       b->workspace, r->workspace_len, b->report, r->report_len, b->answer, r->answer_len);
-#endif
-    default:
-        disagree(names[c], r, "the library has no such call");
     }
 }
 

@@ -5,15 +5,7 @@
 #include "nuntennis.h"
 #include "oracle.h"
 
-typedef enum { CALL_GROUNDED, CALL_PLAIN, CALL_REPORT, CALL_PLAIN_REPORT } call;
-
-// The calls that the library has, from the first on: reports are tried once they are there.
-#ifdef NUNTENNIS_HAS_REPORT
-enum { HAS_REPORT = 1 };
-#else
-enum { HAS_REPORT = 0 };
-#endif
-#define CALLS (HAS_REPORT ? 4 : 2)
+typedef enum { CALL_GROUNDED, CALL_PLAIN, CALL_REPORT, CALL_PLAIN_REPORT, CALLS } call;
 
 // Words that no report is longer than.
 #define REPORT_WORDS(P, G) ((size_t)(P) * ((size_t)(G) + 2))

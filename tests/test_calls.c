@@ -263,7 +263,7 @@ int main(void)
 {
     calls_begin();
     try_sheets();
-    if (HAS_REPORT) try_listed_reports();
+    try_listed_reports();
     try_short_buffers();
     try_limits();
     try_every_p();

@@ -73,7 +73,7 @@ static void compare_newest(const oracle_request *r, const nuntennis_record *reco
 
 static void try_walk(oracle_request r, random_source *s, tally *n)
 {
-    nuntennis_record record;
+    nuntennis_record record = {0};
     uint64_t answer[3];
     uint32_t *found = malloc(4 * need_of(&r));
     r.report_len = REPORT_WORDS(r.plan_limit, r.subset_limit);
@@ -106,7 +106,7 @@ static void try_sheet(oracle_request r, random_source *s, tally *n)
     r.workspace_len = need_of(&r);
     try_call(CALL_GROUNDED, &r, n);
     try_call(CALL_PLAIN, &r, n);
-    for (unsigned k = 0; HAS_REPORT && k < 2; k++) {
+    for (unsigned k = 0; k < 2; k++) {
         r.asked = random_start(s, &r);
         r.report_len = REPORT_WORDS(r.plan_limit, r.subset_limit);
         try_call(CALL_REPORT, &r, n);

@@ -148,7 +148,7 @@ static void try_random(random_source *s, tally *n)
     random_lengths(s, &r);
     n->sheets++;
     try_decisions(&r, &h, n);
-    if (HAS_REPORT) try_reports(s, r, &h, n);
+    try_reports(s, r, &h, n);
     oracle_forget(&h);
 }
 
@@ -159,21 +159,15 @@ static void print_tally(const tally *n)
            n->short_answers);
     for (unsigned k = 2; k <= 17; k++) printf(" [%u] %" PRIu64, k, n->refused[k]);
     printf("\n");
-    if (HAS_REPORT) printf("  reports with a longer subset list before a shorter one: %" PRIu64 "\n", n->ordered);
+    printf("  reports with a longer subset list before a shorter one: %" PRIu64 "\n", n->ordered);
 }
 
-// 64 copies are tried apart; 14 and 17 are of reports.
-static bool is_tried_here(unsigned number)
-{
-    return number != 9 && (HAS_REPORT || (number != 14 && number != 17));
-}
-
-// Every outcome must have come up, or the sheets test less than they seem to.
+// Every outcome must have come up, or the sheets test less than they seem to. 64 copies (9) are tried apart.
 static void check_tally(const tally *n)
 {
-    bool is_thin = n->yes < 100 || n->no < 100 || (HAS_REPORT && (n->reported < 100 || n->ordered < 10));
+    bool is_thin = n->yes < 100 || n->no < 100 || n->reported < 100 || n->ordered < 10;
     for (unsigned k = 2; k <= 17; k++)
-        if (is_tried_here(k) && n->refused[k] < 10) is_thin = true;
+        if (k != 9 && n->refused[k] < 10) is_thin = true;
     if (!is_thin) return;
     printf("some outcome came up too seldom\n");
     exit(1);
