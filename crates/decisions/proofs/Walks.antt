@@ -13,9 +13,10 @@ use Rattle.expression.specs.declared.Counts.{Counts}
 use Rattle.expression.specs.declared.Checked.{Checked}
 use Rattle.expression.specs.declared.Checked.the-variants.{Passed, Refused}
 use Rattle.expression.specs.Limits.{atomLimit}
+use Rattle.expression.specs.Commands.{Suits}
 use Rattle.expression.specs.Reading.{newAtoms, Placed, Reading, faulty, whole, noCounts, reading}
 use Rattle.expression.specs.Checks.{Request, firstOf, isFaulty, countsOf, absentTest, faultTest, unjoinedTest, checks, check}
-use Rattle.expression.proofs.Accepted.{passed-by}
+use Rattle.expression.proofs.Accepted.{passed-by, check-accepted}
 use Rattle.semantics.specs.Expressions.{Expr, Operations, act, actAll, trees}
 use Rattle.semantics.specs.Programs.{numbers}
 use Rattle.semantics.specs.AnswerSets.{Assumptions}
@@ -100,6 +101,11 @@ readable-tree K a (whole cs z) q h =
 pub check-readable : (K : ℕ) (a : Request) {z : Counts} → check K a ≡ Passed z → Readable a (reading K (a .bytes))
 unfolding check
 check-readable K a {z} h = checks-passed a (reading K (a .bytes)) (countsOf (reading K (a .bytes))) z h
+
+-- the labels of its commands are below K
+pub commands-suit : (K : ℕ) (a : Request) {z : Counts} → check K a ≡ Passed z → All (Suits K) (commandsOf (commandsIn (reading K (a .bytes))))
+unfolding commandsIn
+commands-suit K a {z} h = let j = check-accepted K a z h .joined in rw (j .read) (reading-sound K (a .bytes) (j .placed) z (j .read) .suits)
 
 -- so a walk that no limit stops leaves that tree's table
 pub walked-one : {X : Type 0} (A : Algebra X) (o : Assumptions) (f : List X → ℕ) (K : ℕ) (a : Request) (us : List (List X)) → Readable a (reading K (a .bytes))

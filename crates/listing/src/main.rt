@@ -16,7 +16,6 @@ ghost use Rattle.listing.specs.Listing.{isRefusal, eitherRefused, lastSt
 use advances::AREAS;
 use calls::grounded;
 use calls::plain;
-use commands::reading::read_at;
 use expression::Outcome;
 use expression::Read;
 use expression::limits::BYTE_LIMIT;
@@ -26,6 +25,7 @@ use libc::STDOUT_FILENO;
 use outcomes::kind;
 use outcomes::place;
 use outcomes::value;
+use reader::read_next;
 use report_calls::report;
 use reporting::Report;
 
@@ -98,7 +98,7 @@ fn last_start(s: &[u8]) -> usize
     let mut last: usize = 0;
     let mut at: usize = 0;
     loop {
-        let r = read_at(s, at);
+        let r = read_next(s, at);
         let Read::Command(_, next) = r else {
             return last;
         };

@@ -9,7 +9,6 @@ use native.Mathlib.Omega.{arith}
 use lib.ListN.{length, take}
 use lib.Seq.{take-all}
 use Rattle.lists.specs.Lists.{All}
-use Rattle.lists.proofs.Members.{all-take, all-map}
 use Rattle.expression.specs.declared.Counts.{Counts}
 use Rattle.expression.specs.declared.Checked.the-variants.{Passed}
 use Rattle.expression.specs.declared.Outcome.the-variants as outcome
@@ -17,13 +16,12 @@ use Rattle.expression.specs.Refusals.{badRecord}
 use Rattle.expression.specs.Commands.{Suits}
 use Rattle.expression.specs.Reading.{Placed}
 use Rattle.expression.specs.Checks.{Request, check}
-use Rattle.expression.proofs.Accepted.{check-accepted}
-use Rattle.semantics.proofs.Readings.{commandsOf, reading-sound}
+use Rattle.semantics.proofs.Readings.{commandsOf}
 use Rattle.tables.specs.Definitions.{Pair, pairs, groundedAccepts}
 use Rattle.tables.proofs.Exactness.{exact-all}
 use Rattle.decisions.specs.Decisions.{refused, assumed, commandsIn, newest, Walked, stopped, walked, walk, answer, conclude, decide, grounded}
 use Rattle.decisions.specs.Outcomes.{withoutMask}
-use Rattle.decisions.proofs.Walks.{tables-after, walk-all}
+use Rattle.decisions.proofs.Walks.{tables-after, walk-all, commands-suit}
 use Rattle.records.specs.declared.Record.{Record}
 use Rattle.records.specs.declared.Progress.the-variants.{Ended, Refused}
 use Rattle.records.specs.Steps.{Step, stays, moves, step, start}
@@ -172,27 +170,16 @@ module _ (K : ℕ) (a : Request) (z : Counts) (passed : check K a ≡ Passed z) 
           let x = refusing (h .done) (h .tables) (h .number) (h .place) e (h .stops) in
           ap (λ (y : Step). y .answer) (since (h .done) (omega arith) ∙ x .2 (n - suc (h .done))) ∙ ap lastAnswer (sym (x .1))
 
--- the commands that were read have labels below K
-suits-taken : (K : ℕ) (a : Request) {z : Counts} → check K a ≡ Passed z → (k : ℕ) → All (Suits K) (commandsOf (take k (commands K a)))
-unfolding commandsIn
-suits-taken K a {z} passed k =
-    let j = check-accepted K a z passed .joined in
-    let all : commands K a ≡ j .placed = rw (j .read) in
-    all-map P (Suits K) (λ c. c .command) (λ c h. h) (take k (commands K a))
-    (all-take P k (commands K a) (each (commands K a) (subst (λ (cs : List Placed). All (Suits K) (commandsOf cs)) (sym all) (reading-sound K (a .bytes) (j .placed) z (j .read) .suits))))
-  where
-    P : Placed → Type 0
-    P c = Suits K (c .command)
-
-    each : (cs : List Placed) → All (Suits K) (commandsOf cs) → All P cs
-    each [] h = tt
-    each (c ∷ cs) h = (h .0, each cs (h .1))
+suits-taken : (K k : ℕ) (cs : List Placed) → All (Suits K) (commandsOf cs) → All (Suits K) (commandsOf (take k cs))
+suits-taken K zero cs h = tt
+suits-taken K (suc k) [] h = tt
+suits-taken K (suc k) (c ∷ cs) h = (h .0, suits-taken K k cs (h .1))
 
 -- for every request that passes 1 to 13, whatever record and words the walk starts with
 pub walks : (K : ℕ) (a : Request) (z : Counts) → check K a ≡ Passed z → (r : Record) (ws : List ℕ) → Walks K a r ws
 walks K a z passed r ws = record {
   demand2 = λ k us e. walk-all (B K a) (fault K a) 0 (take k (commands K a)) [] us e ∙ tables-after (pairs K) (assumed a) (take k (commands K a));
-  exact = λ k. exact-all K (assumed a) (commandsOf (take k (commands K a))) (suits-taken K a passed k);
+  exact = λ k. exact-all K (assumed a) (commandsOf (take k (commands K a))) (suits-taken K k (commands K a) (commands-suit K a passed));
   holds = holding K a z passed r ws;
   refuses = refusing K a z passed r ws;
   ends = ending K a z passed r ws;

@@ -20,12 +20,12 @@ use Rattle.expression.proofs.Checks.{Joined}
 use Rattle.expression.proofs.Accepted.{check-accepted}
 use Rattle.expression.proofs.Remaining.{remains-start, remains-next}
 use Rattle.semantics.specs.Expressions.{Expr, act, actAll, trees, uniteNewest, changeNewest}
-use Rattle.semantics.proofs.Readings.{commandsOf, reading-sound}
+use Rattle.semantics.proofs.Readings.{commandsOf}
 use Rattle.tables.specs.Algebras.{Algebra, tables, table}
 use Rattle.tables.specs.Exactness.{ExactTables}
 use Rattle.tables.proofs.Exactness.{exact-all}
 use Rattle.decisions.specs.Decisions.{assumed, commandsIn, newest, Walked, stopped, walked, walk, firstTree}
-use Rattle.decisions.proofs.Walks.{tables-after, walk-all}
+use Rattle.decisions.proofs.Walks.{tables-after, walk-all, commands-suit}
 use Rattle.walks.specs.Walks.{before}
 use Rattle.walks.proofs.Before.{before-more}
 use Rattle.reporting.specs.Reporting.{startsAt, Asked, refusedAt, tableAt, newestIn, askedTable}
@@ -89,7 +89,7 @@ module _ (K : ℕ) (a : Request) (at : ℕ) {z : Counts} (passed : check K a ≡
   read = ap commandsIn (joined .read)
 
   suit : All (Suits K) cs
-  suit = suits-before K (at + 1) (commandsIn (reading K (a .bytes))) (subst (λ (ps : List Placed). All (Suits K) (commandsOf ps)) (sym read) (reading-sound K (a .bytes) (joined .placed) z (joined .read) .suits))
+  suit = suits-before K (at + 1) (commandsIn (reading K (a .bytes))) (commands-suit K a passed)
 
   filled : 0 < length (a .bytes) → Filled (actAll trees 0 cs [])
   unfolding actAll

@@ -19,8 +19,8 @@ abbrev μ-loop : tie.MeasureT-loop
 loop-holds : tie.Need-loop-holds Inv-loop μ-loop
 loop-holds c = ahead-start _ _
 
-read-at-requires : tie.Need-read-at-requires Inv-loop μ-loop
-read-at-requires c κs = search needs
+read-next-requires : tie.Need-read-next-requires Inv-loop μ-loop
+read-next-requires c κs = search needs
 
 enum-known-r : tie.Need-enum-known-r Inv-loop μ-loop
 enum-known-r c = search needs
@@ -31,17 +31,17 @@ enum-told c = search needs
 returns : tie.Need-returns Inv-loop μ-loop
 returns c =
     let l = c .before .before .before .loop in
-    ahead-fault _ _ (l .last) (l .at) _ (sym (c .before .before .read-at .ensures) ∙ c .enum-told .given .1) (l .inv)
+    ahead-fault _ _ (l .last) (l .at) _ (sym (c .before .before .read-next .ensures) ∙ c .enum-told .given .1) (l .inv)
 
 loop-less : tie.Need-loop-less Inv-loop μ-loop
 loop-less c =
-    let e = read-ends _ _ (c .before .before .before .before .loop .at) _ _ (sym (c .before .before .before .read-at .ensures) ∙ c .before .r .given .1) in
+    let e = read-ends _ _ (c .before .before .before .before .loop .at) _ _ (sym (c .before .before .before .read-next .ensures) ∙ c .before .r .given .1) in
     omega arith
 
 loop-again : tie.Need-loop-again Inv-loop μ-loop
 loop-again c =
     let l = c .before .before .before .before .loop in
-    ahead-step _ _ (l .last) (l .at) _ _ (sym (c .before .before .before .read-at .ensures) ∙ c .before .r .given .1) (l .inv)
+    ahead-step _ _ (l .last) (l .at) _ _ (sym (c .before .before .before .read-next .ensures) ∙ c .before .r .given .1) (l .inv)
 
 pub last-start-spec : {M : Type 1} → statement M
 last-start-spec =
@@ -50,7 +50,7 @@ last-start-spec =
     Inv-loop
     μ-loop
     loop-holds
-    read-at-requires
+    read-next-requires
     enum-known-r
     enum-told
     returns
