@@ -8,29 +8,26 @@ use Rattle.expression.specs.declared.Counts.{Counts}
 use Rattle.expression.specs.declared.Checked.the-variants.{Passed, Refused as Stopped}
 use Rattle.expression.specs.declared.Outcome.{Outcome}
 use Rattle.expression.specs.declared.Outcome.the-variants.{Yes, No, Refused}
-use Rattle.expression.specs.Limits.{workspaceNeed}
 use Rattle.expression.specs.Checks.{Request, check}
 use Rattle.checks.proofs.Passing.{accepted}
 use Rattle.semantics.specs.AnswerSets.{byMasks}
-use Rattle.tables.specs.Definitions.{pairs, flat, accepting}
+use Rattle.tables.specs.Definitions.{pairs, accepting}
 use Rattle.values.specs.Values.{lowered}
 use Rattle.values.specs.First.{firstWords}
-use Rattle.decisions.specs.Decisions.{affirmed, denied, assumed, answer, newest}
-use Rattle.decisions.specs.Outcomes.{GroundedOutcome, PlainOutcome}
-use Rattle.decisions.proofs.Carried.{mapWalked, newest-map, valuedWalk, low-walk, grounded-refused, plain-refused, plain-stopped, plain-walked-grounded}
+use Rattle.decisions.specs.Decisions.{assumed, newest}
+use Rattle.decisions.specs.Outcomes.{GroundedOutcome}
+use Rattle.decisions.proofs.Carried.{mapWalked, newest-map, valuedWalk, low-walk, grounded-refused}
 use Rattle.decisions.proofs.Words.{leastIn}
-use Rattle.decisions.proofs.Outcomes.{refused-outcome, plain-outcome, stopped-outcome, yes-outcome, no-outcome}
-use Rattle.entries.specs.declared.Carry.the-variants.{Nothing, First}
-use Rattle.entries.specs.Carries.{Entry, carriedBy}
-use Rattle.leaves.specs.declared.Tables.the-variants.{Plain, Pairs}
+use Rattle.decisions.proofs.Outcomes.{refused-outcome, stopped-outcome, yes-outcome, no-outcome}
+use Rattle.entries.specs.declared.Carry.the-variants.{First}
+use Rattle.entries.specs.Carries.{Entry}
+use Rattle.leaves.specs.declared.Tables.the-variants.{Pairs}
 use Rattle.leaves.specs.Leaves.{algebraOf}
 use Rattle.answers.specs.Answers.{leastOf}
-use Rattle.answers.proofs.Accepting.{none-denies, worth-affirms}
 use Rattle.walks.specs.Walks.{walkTo}
 use Rattle.walks.proofs.Whole.{whole-walk}
-use Rattle.stacks.specs.Stacks.{cleared, wordsAfter}
 use Rattle.deciding.specs.Deciding.{Decides}
-use Rattle.engine.specs.Engine.{shownOutcome, plainOutcome}
+use Rattle.engine.specs.Engine.{shownOutcome}
 
 -- the least number of the newest table
 newest-low : (us : List (List Entry)) → leastIn labelCount (newest (map (map lowered) us)) ≡ leastOf (accepting labelCount) (newest us)
@@ -42,39 +39,16 @@ module _ (a : Request) where
   pub refused-grounded : {n at : ℕ} → check labelCount a ≡ Stopped n at → GroundedOutcome labelCount a (Refused n at)
   refused-grounded h = refused-outcome labelCount a (grounded-refused labelCount a h)
 
-  pub refused-plain : {n at : ℕ} → check labelCount a ≡ Stopped n at → PlainOutcome labelCount a (Refused n at)
-  refused-plain h = plain-outcome labelCount a (plain-refused labelCount a h) refl
-
-  pub words-stay : {n at : ℕ} (ws : List ℕ) → check labelCount a ≡ Stopped n at → ws ≡ wordsAfter labelCount a ws
-  unfolding wordsAfter
-  words-stay ws h = rw (h, wordsAfter)
-
   -- ---- all checks pass
 
   module _ {z : Counts} (passed : check labelCount a ≡ Passed z) where
-    pub words-cleared : (ws : List ℕ) → cleared (workspaceNeed (a .pairLimit) (a .subsetLimit)) ws ≡ wordsAfter labelCount a ws
-    unfolding wordsAfter
-    words-cleared ws = rw (passed, wordsAfter)
-
     pairs-walk : valuedWalk (pairs labelCount) firstWords (a .subsetLimit) labelCount a
         ≡ mapWalked lowered (walkTo Pairs First (byMasks (a .assumedTrue) (a .assumedFalse)) (a .subsetLimit + 2) (a .pairLimit) (length (a .bytes)) (a .bytes))
     unfolding assumed algebraOf
     pairs-walk = low-walk (pairs labelCount) firstWords (a .subsetLimit) labelCount a ∙ sym (ap (mapWalked lowered) (whole-walk a (accepted a passed .joined) Pairs First (a .subsetLimit + 2) (a .subsetLimit) refl))
-
-    plain-walk : walkTo Plain Nothing (byMasks (a .assumedTrue) (a .assumedFalse)) 2 (a .pairLimit) (length (a .bytes)) (a .bytes) ≡ valuedWalk (flat labelCount) (carriedBy Nothing) 0 labelCount a
-    unfolding assumed algebraOf
-    plain-walk = whole-walk a (accepted a passed .joined) Plain Nothing 2 0 refl
 
     pub grounded-decided : (o : Outcome) → Decides Pairs First (byMasks (a .assumedTrue) (a .assumedFalse)) (a .subsetLimit + 2) (a .pairLimit) (a .bytes) o → GroundedOutcome labelCount a (shownOutcome (z .atoms) o)
     unfolding mapWalked
     grounded-decided (Yes v) (us, e, l) = yes-outcome labelCount a passed (pairs-walk ∙ ap (mapWalked lowered) e) v (newest-low us ∙ l)
     grounded-decided No (us, e, l) = no-outcome labelCount a passed (pairs-walk ∙ ap (mapWalked lowered) e) (newest-low us ∙ l)
     grounded-decided (Refused n at) e = stopped-outcome labelCount a passed (pairs-walk ∙ ap (mapWalked lowered) e)
-
-    pub plain-decided : (o : Outcome) → Decides Plain Nothing (byMasks (a .assumedTrue) (a .assumedFalse)) 2 (a .pairLimit) (a .bytes) o → PlainOutcome labelCount a (plainOutcome o)
-    unfolding answer
-    plain-decided (Yes v) (us, e, l) =
-        plain-outcome labelCount a {v = affirmed} (plain-walked-grounded (carriedBy Nothing) labelCount a passed 0 (sym plain-walk ∙ e) ∙ ap answer (worth-affirms labelCount (newest us) v l)) refl
-    plain-decided No (us, e, l) =
-        plain-outcome labelCount a {v = denied} (plain-walked-grounded (carriedBy Nothing) labelCount a passed 0 (sym plain-walk ∙ e) ∙ ap answer (none-denies labelCount (newest us) l)) refl
-    plain-decided (Refused n at) e = plain-outcome labelCount a (plain-stopped (carriedBy Nothing) labelCount a passed 0 (sym plain-walk ∙ e)) refl

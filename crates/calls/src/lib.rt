@@ -1,4 +1,4 @@
-// The calls of the library, as the definitions say them. None has a `requires`.
+// The grounded decision, as the definitions say it. It has no `requires`.
 use advances::AREAS;
 use checks::checking::check;
 use expression::Checked;
@@ -6,7 +6,7 @@ use expression::Outcome;
 ghost use mathlib.Core.Path.{_≡_};
 ghost use lib.ListN.{length};
 ghost use Rattle.labels.specs.Labels.{labelCount};
-ghost use Rattle.decisions.specs.Outcomes.{GroundedOutcome, PlainOutcome};
+ghost use Rattle.decisions.specs.Outcomes.{GroundedOutcome};
 ghost use Rattle.stacks.specs.Stacks.{wordsAfter};
 ghost use Rattle.checks.specs.Requests.{request};
 
@@ -32,26 +32,4 @@ pub fn grounded(
     let need = AREAS * (limit * w);
     let o = engine::decide_pairs(s, ws, w, limit, need, assumed_true, assumed_false);
     engine::shown(o, n.atoms)
-}
-
-// The plain decision: the same of models, and yes shows none. A plain table's rows have no subsets, but the words needed are the same.
-pub fn plain(
-    s: &[u8],
-    p: u64,
-    g: u64,
-    assumed_true: u64,
-    assumed_false: u64,
-    ws: &mut [u32],
-) -> Outcome
-    ensures { λ r. ⌜ PlainOutcome labelCount (request (now (s .entry)) p g (length (now (ws .entry))) «assumed_true» «assumed_false») r ⌝ }
-    ensures { λ r. ⌜ now (ws .exit) ≡ wordsAfter labelCount (request (now (s .entry)) p g (length (now (ws .entry))) «assumed_true» «assumed_false») (now (ws .entry)) ⌝ }
-{
-    let r = check(s, p, g, ws.len(), assumed_true, assumed_false);
-    let Checked::Passed(_) = r else {
-        return checks::outcomes::refusal(r);
-    };
-    let limit = p as usize;
-    let need = AREAS * (limit * (g as usize + 2));
-    let o = engine::decide_plain(s, ws, limit, need, assumed_true, assumed_false);
-    engine::unshown(o)
 }

@@ -59,7 +59,7 @@ pub extern "C" fn nuntennis_plain(
     if answer.len() < ANSWER_WORDS {
         return 0;
     }
-    let o = calls::plain(sheet, p, g, pins_in, pins_out, workspace);
+    let o = plain_calls::plain(sheet, p, g, pins_in, pins_out, workspace);
     write_answer(answer, o);
     1
 }

@@ -3,7 +3,6 @@
 // how often each outcome was agreed on.
 ghost use Prim.Native.Nat.{_+_, _*_, _<_, _≤_};
 use calls::grounded;
-use calls::plain;
 use expression::Outcome;
 use generator::drawn;
 use generator::limit;
@@ -22,6 +21,7 @@ use oracle_tables::Request;
 use outcomes::kind;
 use outcomes::place;
 use outcomes::value;
+use plain_calls::plain;
 use report_calls::plain_report;
 use report_calls::report;
 use reporting::Report;

@@ -9,8 +9,9 @@ use Rattle.expression.specs.Checks.{Request, check}
 use Rattle.expression.proofs.Accepted.{check-bytes}
 use Rattle.checks.specs.Requests.{request, refusalOutcome}
 use Rattle.decisions.specs.Outcomes.{GroundedOutcome}
+use Rattle.stacks.proofs.After.{words-stay, words-cleared}
 use Rattle.checks.proofs.Passing.{accepted, area-small}
-use Rattle.calls.proofs.Outcomes.{refused-grounded, words-stay, words-cleared, grounded-decided}
+use Rattle.calls.proofs.Outcomes.{refused-grounded, grounded-decided}
 use borrow.Author.Needs.{needs}
 use native.Mathlib.Omega.{arith}
 use borrow.Author.Needs.{needs}
@@ -51,7 +52,7 @@ returns c =
     let s = c .before .before .before .before .before .before in
     let g = c .before .enum-told .given in
     let h = sym (c .before .before .before .check .ensures) ∙ g .1 in
-    (subst (GroundedOutcome labelCount (asked s)) (sym (c .refusal .ensures ∙ ap refusalOutcome (g .1))) (refused-grounded (asked s) h), words-stay (asked s) (s .args .ws .now) h)
+    (subst (GroundedOutcome labelCount (asked s)) (sym (c .refusal .ensures ∙ ap refusalOutcome (g .1))) (refused-grounded (asked s) h), words-stay labelCount (asked s) (s .args .ws .now) h)
 
 add-w : tie.Need-add-w
 add-w c = let e = c .before in omega (arith, accepted (asked (start e)) (passed e) .subsets .1)
@@ -79,7 +80,7 @@ returns-2 : tie.Need-returns-2
 returns-2 c =
     let e = c .before .before .before .before .before .before in
     let d = c .before .before .before .decide-pairs in
-    (subst (GroundedOutcome labelCount (asked (start e))) (sym (c .shown .ensures)) (grounded-decided (asked (start e)) (passed e) (d .result) (d .ensures .0)), d .ensures .1 ∙ words-cleared (asked (start e)) (passed e) (start e .args .ws .now))
+    (subst (GroundedOutcome labelCount (asked (start e))) (sym (c .shown .ensures)) (grounded-decided (asked (start e)) (passed e) (d .result) (d .ensures .0)), d .ensures .1 ∙ words-cleared labelCount (asked (start e)) (start e .args .ws .now) (passed e))
 
 pub grounded-spec : {M : Type 1} → statement M
 grounded-spec =

@@ -1,11 +1,11 @@
--- `nuntennis_plain`: the slice is short, or `calls::plain` decides and its outcome is written.
+-- `nuntennis_plain`: the slice is short, or `plain_calls::plain` decides and its outcome is written.
 use mathlib.Core.Path.{refl, ap, _∙_}
 use borrow.Author.Needs.{needs}
 use borrow.Author.Tests.{lt-ltb, le-ltb}
 use Rattle.host_words.specs.Answers.{answerOf}
 use Rattle.nuntennis.proofs.nuntennis_plain.Statement.{statement}
 use Rattle.nuntennis.proofs.nuntennis_plain.Tie as tie
-use Rattle.calls.proofs.plain.Reads as plain-reads
+use Rattle.plain_calls.proofs.plain.Reads as plain-reads
 use Rattle.host_words.proofs.write_answer.Reads as write-answer-reads
 
 returns : tie.Need-returns

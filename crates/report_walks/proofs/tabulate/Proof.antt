@@ -1,4 +1,4 @@
--- `tabulating::tabulate`: from the cleared words through the walk to the report of its newest table, and to cleared words again.
+-- `report_walks::tabulate`: from the cleared words through the walk to the report of its newest table, and to cleared words again.
 use mathlib.Core.Path.{_≡_, sym, ap, _∙_, subst}
 use mathlib.Core.List.{List, [], map}
 use Prim.Native.Nat.{ℕ, _+_}
@@ -21,8 +21,8 @@ use Rattle.reporting.specs.Reporting.{newestIn, reportAnswer, reportBuffer}
 use borrow.Author.Needs.{needs}
 use native.Mathlib.Omega.{arith}
 use borrow.Author.Needs.{needs}
-use Rattle.tabulating.proofs.tabulate.Statement.{statement}
-use Rattle.tabulating.proofs.tabulate.Tie as tie
+use Rattle.report_walks.proofs.tabulate.Statement.{statement}
+use Rattle.report_walks.proofs.tabulate.Tie as tie
 use Rattle.reporting.proofs.report_newest.Reads as report-newest-reads
 use Rattle.stacks.proofs.clear_need.Reads as clear-need-reads
 use Rattle.stacks.proofs.clear_tables.Reads as clear-tables-reads

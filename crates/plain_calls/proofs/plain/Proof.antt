@@ -1,4 +1,4 @@
--- `calls::plain`: a check refuses, or the walk decides.
+-- `plain_calls::plain`: a check refuses, or the walk decides.
 use mathlib.Core.Path.{_≡_, refl, sym, ap, _∙_, subst}
 use Prim.Native.Nat.{ℕ, _+_, _*_, _≤_}
 use lib.ListN.{length}
@@ -9,13 +9,14 @@ use Rattle.expression.specs.Checks.{Request, check}
 use Rattle.expression.proofs.Accepted.{check-bytes}
 use Rattle.checks.specs.Requests.{request, refusalOutcome}
 use Rattle.decisions.specs.Outcomes.{PlainOutcome}
+use Rattle.stacks.proofs.After.{words-stay, words-cleared}
 use Rattle.checks.proofs.Passing.{accepted, area-small, plain-within}
-use Rattle.calls.proofs.Outcomes.{refused-plain, words-stay, words-cleared, plain-decided}
+use Rattle.plain_calls.proofs.Outcomes.{refused-plain, plain-decided}
 use borrow.Author.Needs.{needs}
 use native.Mathlib.Omega.{arith}
 use borrow.Author.Needs.{needs}
-use Rattle.calls.proofs.plain.Statement.{statement}
-use Rattle.calls.proofs.plain.Tie as tie
+use Rattle.plain_calls.proofs.plain.Statement.{statement}
+use Rattle.plain_calls.proofs.plain.Tie as tie
 use Rattle.checks.proofs.checking.check.Reads as check-reads
 use Rattle.engine.proofs.decide_plain.Reads as decide-plain-reads
 use Rattle.checks.proofs.outcomes.refusal.Reads as refusal-reads
@@ -51,7 +52,7 @@ returns c =
     let s = c .before .before .before .before .before .before in
     let g = c .before .enum-told2 .given in
     let h = sym (c .before .before .before .check .ensures) ∙ g .1 in
-    (subst (PlainOutcome labelCount (asked s)) (sym (c .refusal .ensures ∙ ap refusalOutcome (g .1))) (refused-plain (asked s) h), words-stay (asked s) (s .args .ws .now) h)
+    (subst (PlainOutcome labelCount (asked s)) (sym (c .refusal .ensures ∙ ap refusalOutcome (g .1))) (refused-plain (asked s) h), words-stay labelCount (asked s) (s .args .ws .now) h)
 
 add-need : tie.Need-add-need
 add-need c = omega (arith, accepted (asked (start c)) (passed c) .subsets .1)
@@ -78,7 +79,7 @@ returns-2 : tie.Need-returns-2
 returns-2 c =
     let e = c .before .before .before .before .before in
     let d = c .before .before .before .decide-plain in
-    (subst (PlainOutcome labelCount (asked (start e))) (sym (c .unshown .ensures)) (plain-decided (asked (start e)) (passed e) (d .result) (d .ensures .0)), d .ensures .1 ∙ words-cleared (asked (start e)) (passed e) (start e .args .ws .now))
+    (subst (PlainOutcome labelCount (asked (start e))) (sym (c .unshown .ensures)) (plain-decided (asked (start e)) (passed e) (d .result) (d .ensures .0)), d .ensures .1 ∙ words-cleared labelCount (asked (start e)) (start e .args .ws .now) (passed e))
 
 pub plain-spec : {M : Type 1} → statement M
 plain-spec =
