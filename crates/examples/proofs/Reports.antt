@@ -1,0 +1,140 @@
+-- Reports by evaluation: 14 and 17 with their places, what is written, and the order of pairs, numbers and places as 01 has them. Assumes nothing.
+use mathlib.Core.Path.{_≡_, refl}
+use mathlib.Core.List.{List, [], _∷_, _++_, map}
+use Prim.Native.Nat.{ℕ, _+_, _-_, _*_}
+use lib.ListN.{length, replicate}
+use Rattle.lists.specs.Lists.{some, products}
+use Rattle.lists.specs.Sorted.{compareNumbers, compareLists, second, insert, insertAll, canon, setOf}
+use Rattle.labels.specs.Labels.{labelCount}
+use Rattle.labels.specs.Sets.{has, without, replace}
+use Rattle.expression.specs.Commands.{oneOperand, twoOperands, isCommand, operandCount, commandOf, readCommand, readAt}
+use Rattle.expression.specs.Reading.{noCounts, newAtoms, newRules, depthAfter, counted, countFault, behind, readFrom, reading}
+use Rattle.expression.specs.Checks.{Request, firstOf, isFaulty, faultNumber, faultPlace, countsOf, isLimit, overlongTest, limitsTest, crampedTest, clashTest, faultTest, unjoinedTest, absentTest, checks, check}
+use Rattle.expression.specs.Places.{locateFrom, locate}
+use Rattle.semantics.specs.Expressions.{uniteNewest, changeNewest, act}
+use Rattle.semantics.specs.AnswerSets.{byMasks}
+use Rattle.tables.specs.Algebras.{leaf, tables}
+use Rattle.tables.specs.Triples.{markT, markF, markU, relabelTriple, settles, connectTriple}
+use Rattle.tables.specs.Definitions.{Pair, unitePairs, mapPair, pairs, triples}
+use Rattle.decisions.specs.Decisions.{assumed, commandsIn, pairsFault, plainFault, walk}
+use Rattle.walks.specs.Walks.{before}
+use Rattle.leaves.specs.declared.Tables.the-variants.{Pairs}
+use Rattle.reports.specs.Reports.{entryWords, reportOf}
+use Rattle.reporting.specs.declared.Report.{Report}
+use Rattle.reporting.specs.declared.Report.the-variants.{Written, Refused}
+use Rattle.reporting.specs.Reporting.{startsAt, Asked, askedTable, reportAnswer, reportBuffer, wordsReported}
+
+-- the sheet, P, G and the offset asked, with a buffer of so many words; what each kind of report answers, and the words that it writes, the others being 9
+record Row : Type 0 where
+  sheet : List ℕ
+  P : ℕ
+  G : ℕ
+  offset : ℕ
+  room : ℕ
+  answers : Report
+  writes : List ℕ
+  plainly : Report
+  plainWrites : List ℕ
+
+asked : Row → Request
+asked r = record { bytes = r .sheet; pairLimit = r .P; subsetLimit = r .G; room = 9 * (r .P * (r .G + 2)); assumedTrue = 0; assumedFalse = 0 }
+
+row : List ℕ → ℕ → ℕ → ℕ → ℕ → Report → List ℕ → Report → List ℕ → Row
+row s P G at n x ws y vs = record { sheet = s; P = P; G = G; offset = at; room = n; answers = x; writes = ws; plainly = y; plainWrites = vs }
+
+-- a refusal of both kinds
+refusal : List ℕ → ℕ → ℕ → ℕ → ℕ → ℕ → ℕ → Row
+refusal s P G at n f place = row s P G at n (Refused f place) [] (Refused f place) []
+
+listed : List ℕ
+listed = 0x11 ∷ 0 ∷ 0x12 ∷ 1 ∷ 0x21 ∷ 0x41 ∷ 0 ∷ 1 ∷ []
+
+twins : List ℕ
+twins = 0x11 ∷ 0 ∷ 0x11 ∷ 0 ∷ 0x21 ∷ []
+
+rows : List Row
+rows =
+    -- the listed table, with room to spare, with just the room, and with a word less; plainly the triples alone
+    row listed 32 32 5 8 (Written 2 5) (1 ∷ 1 ∷ 131328 ∷ 131328 ∷ 0 ∷ []) (Written 2 2) (1 ∷ 131328 ∷ [])
+    ∷ row listed 32 32 5 5 (Written 2 5) (1 ∷ 1 ∷ 131328 ∷ 131328 ∷ 0 ∷ []) (Written 2 2) (1 ∷ 131328 ∷ [])
+    ∷ row listed 32 32 5 4 (Refused 17 5) [] (Written 2 2) (1 ∷ 131328 ∷ [])
+    ∷ refusal listed 32 32 5 1 17 5
+    -- the newest part after the command asked
+    ∷ row listed 32 32 0 9 (Written 2 5) (1 ∷ 1 ∷ 256 ∷ 256 ∷ 0 ∷ []) (Written 2 2) (1 ∷ 256 ∷ [])
+    ∷ row listed 32 32 2 9 (Written 1 2) (131072 ∷ 0 ∷ []) (Written 1 1) (131072 ∷ [])
+    -- 14 at an operand's offset, at the end, behind it
+    ∷ refusal listed 32 32 1 9 14 1
+    ∷ refusal listed 32 32 6 9 14 6
+    ∷ refusal listed 32 32 8 9 14 8
+    ∷ refusal listed 32 32 9 9 14 9
+    -- 12 before 14; 14 before 16, and 15 and 16 before 17
+    ∷ refusal (0x11 ∷ 0 ∷ 0x11 ∷ 0 ∷ []) 32 32 1 9 12 4
+    ∷ refusal twins 2 2 3 0 14 3
+    ∷ refusal twins 2 2 4 0 16 4
+    ∷ row twins 3 1 4 0 (Refused 15 4) [] (Refused 17 4) []
+    -- a report stops after the command asked: before the join that is too large, and after an earlier command that is
+    ∷ row twins 2 2 2 9 (Written 2 5) (1 ∷ 1 ∷ 256 ∷ 256 ∷ 0 ∷ []) (Written 2 2) (1 ∷ 256 ∷ [])
+    ∷ refusal (twins ++ (0x12 ∷ 1 ∷ 0x21 ∷ [])) 2 2 5 9 16 4
+    -- pairs with equal Q: a list before its longer continuation
+    ∷ row (twins ++ (0x11 ∷ 0 ∷ 0x21 ∷ [])) 32 32 7 20 (Written 4 13) (1 ∷ 2 ∷ 256 ∷ 257 ∷ 256 ∷ 0 ∷ 257 ∷ 1 ∷ 256 ∷ 257 ∷ 2 ∷ 256 ∷ 257 ∷ []) (Written 3 3) (1 ∷ 256 ∷ 257 ∷ [])
+    -- and {514, 66048} before {66048}: lists are compared place by place, not by how many
+    ∷ row (0x11 ∷ 1 ∷ 0x12 ∷ 0 ∷ 0x21 ∷ 0x11 ∷ 1 ∷ 0x21 ∷ 0x41 ∷ 1 ∷ 0 ∷ 0x11 ∷ 1 ∷ 0x21 ∷ []) 32 32 13 22 (Written 6 22)
+    (2 ∷ 3 ∷ 514 ∷ 66048 ∷ 66050 ∷ 514 ∷ 2 ∷ 514 ∷ 66048 ∷ 514 ∷ 3 ∷ 514 ∷ 66048 ∷ 66050 ∷ 514 ∷ 1 ∷ 66048 ∷ 66048 ∷ 0 ∷ 66050 ∷ 1 ∷ 66048 ∷ [])
+    (Written 4 4) (2 ∷ 514 ∷ 66048 ∷ 66050 ∷ [])
+    ∷ []
+
+-- what is left of a buffer of 9s
+written : ℕ → List ℕ → List ℕ
+written n ws = ws ++ replicate (n - length ws) 9
+
+abbrev pairsOf : Row → Asked Pair
+pairsOf r = askedTable (pairs labelCount) (pairsFault (r .P) (r .G)) labelCount (asked r) (r .offset)
+
+abbrev triplesOf : Row → Asked ℕ
+triplesOf r = askedTable (triples labelCount) (plainFault (r .P)) labelCount (asked r) (r .offset)
+
+answer-examples : map (λ r. reportAnswer (reportOf Pairs) (r .room) (r .offset) (pairsOf r)) rows ≡ map (λ r. r .answers) rows
+unfolding rows row refusal asked listed twins written askedTable startsAt reportOf entryWords before walk commandsIn pairsFault plainFault assumed byMasks locate locateFrom check checks overlongTest limitsTest crampedTest
+    clashTest faultTest unjoinedTest absentTest isLimit countsOf faultPlace faultNumber isFaulty firstOf reading readFrom behind countFault counted depthAfter newRules newAtoms noCounts readAt readCommand
+    commandOf operandCount isCommand twoOperands oneOperand act uniteNewest changeNewest pairs triples mapPair unitePairs connectTriple settles relabelTriple markT markF markU tables leaf some products setOf
+    canon insertAll insert compareLists compareNumbers has without replace
+answer-examples = refl
+
+buffer-examples : map (λ r. reportBuffer (reportOf Pairs) (replicate (r .room) 9) (pairsOf r)) rows ≡ map (λ r. written (r .room) (r .writes)) rows
+unfolding rows row refusal asked listed twins written askedTable startsAt reportOf entryWords before walk commandsIn pairsFault plainFault assumed byMasks locate locateFrom check checks overlongTest limitsTest crampedTest
+    clashTest faultTest unjoinedTest absentTest isLimit countsOf faultPlace faultNumber isFaulty firstOf reading readFrom behind countFault counted depthAfter newRules newAtoms noCounts readAt readCommand
+    commandOf operandCount isCommand twoOperands oneOperand act uniteNewest changeNewest pairs triples mapPair unitePairs connectTriple settles relabelTriple markT markF markU tables leaf some products setOf
+    canon insertAll insert compareLists compareNumbers has without replace
+buffer-examples = refl
+
+plain-answer-examples : map (λ r. reportAnswer (λ t. t) (r .room) (r .offset) (triplesOf r)) rows ≡ map (λ r. r .plainly) rows
+unfolding rows row refusal asked listed twins written askedTable startsAt reportOf entryWords before walk commandsIn pairsFault plainFault assumed byMasks locate locateFrom check checks overlongTest limitsTest crampedTest
+    clashTest faultTest unjoinedTest absentTest isLimit countsOf faultPlace faultNumber isFaulty firstOf reading readFrom behind countFault counted depthAfter newRules newAtoms noCounts readAt readCommand
+    commandOf operandCount isCommand twoOperands oneOperand act uniteNewest changeNewest pairs triples mapPair unitePairs connectTriple settles relabelTriple markT markF markU tables leaf some products setOf
+    canon insertAll insert compareLists compareNumbers has without replace
+plain-answer-examples = refl
+
+plain-buffer-examples : map (λ r. reportBuffer (λ t. t) (replicate (r .room) 9) (triplesOf r)) rows ≡ map (λ r. written (r .room) (r .plainWrites)) rows
+unfolding rows row refusal asked listed twins written askedTable startsAt reportOf entryWords before walk commandsIn pairsFault plainFault assumed byMasks locate locateFrom check checks overlongTest limitsTest crampedTest
+    clashTest faultTest unjoinedTest absentTest isLimit countsOf faultPlace faultNumber isFaulty firstOf reading readFrom behind countFault counted depthAfter newRules newAtoms noCounts readAt readCommand
+    commandOf operandCount isCommand twoOperands oneOperand act uniteNewest changeNewest pairs triples mapPair unitePairs connectTriple settles relabelTriple markT markF markU tables leaf some products setOf
+    canon insertAll insert compareLists compareNumbers has without replace
+plain-buffer-examples = refl
+
+-- ---- the order of pairs alone: of three with equal Q, {3}, {3, 9}, {5}
+
+order-example : reportOf Pairs (canon compareLists second ((7 ∷ 5 ∷ []) ∷ (7 ∷ 3 ∷ 9 ∷ []) ∷ (6 ∷ 8 ∷ []) ∷ (7 ∷ 3 ∷ []) ∷ (7 ∷ 5 ∷ []) ∷ []))
+    ≡ 6 ∷ 1 ∷ 8 ∷ 7 ∷ 1 ∷ 3 ∷ 7 ∷ 2 ∷ 3 ∷ 9 ∷ 7 ∷ 1 ∷ 5 ∷ []
+unfolding reportOf entryWords canon insertAll insert compareLists compareNumbers
+order-example = refl
+
+-- ---- the workspace afterwards: untouched by 1 to 14, else zero where it is needed
+
+-- with P = G = 1: the need is 27
+small : Request
+small = record { bytes = 0x11 ∷ 0 ∷ []; pairLimit = 1; subsetLimit = 1; room = 29; assumedTrue = 1; assumedFalse = 0 }
+
+words-examples : map (λ at. wordsReported labelCount small at (replicate 29 9)) (0 ∷ 1 ∷ 2 ∷ []) ≡ (replicate 27 0 ++ (9 ∷ 9 ∷ [])) ∷ replicate 29 9 ∷ replicate 29 9 ∷ []
+unfolding wordsReported small startsAt locate locateFrom check checks overlongTest limitsTest crampedTest clashTest faultTest unjoinedTest absentTest isLimit countsOf faultPlace faultNumber isFaulty firstOf reading
+    readFrom behind countFault counted depthAfter newRules newAtoms noCounts readAt readCommand commandOf operandCount isCommand twoOperands oneOperand
+words-examples = refl
