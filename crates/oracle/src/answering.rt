@@ -77,7 +77,7 @@ fn walk(s: &[u8], q: Request, end: usize, words: &mut [u32; 16512]) -> Answer
 }
 
 // 15 and 16.
-fn table_answer(w: Written, q: Request, place: usize) -> Answer {
+pub fn table_answer(w: Written, q: Request, place: usize) -> Answer {
     if w.subsets > q.subset_limit {
         return answered(REFUSED, SUBSETS_FULL, place);
     }

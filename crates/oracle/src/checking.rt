@@ -1,4 +1,5 @@
 // The checks that come before any table: 1 to 14 in 01's order.
+ghost use Prim.Native.Nat.{_≤_};
 use expression::limits::BYTE_LIMIT;
 use expression::limits::TABLE_LIMIT;
 use expression::refusals::ABSENT;
@@ -81,7 +82,7 @@ fn request_fault(bytes: usize, q: Request) -> u64 {
     if !is_limit(q.subset_limit) {
         return LIMITS;
     }
-    if is_cramped(q.room, q.pair_limit, q.subset_limit) {
+    if q.room < workspace_need(q) as u64 {
         return CRAMPED;
     }
     if q.assumed_true & q.assumed_false != 0 {
@@ -97,9 +98,18 @@ fn is_limit(x: u64) -> bool {
     x <= TABLE_LIMIT
 }
 
-// room < 9 × P × (G + 2), for limits that are such; said with quotients, no product is too large.
-fn is_cramped(room: u64, p: u64, g: u64) -> bool {
-    room / 9 / (g % 2048 + 2) < p
+// 9 × P × (G + 2), for limits that are such: they count modulo 1025.
+pub fn workspace_need(q: Request) -> usize
+    ensures { λ r. ⌜ r ≤ 9455616 ⌝ }
+{
+    areas(q.pair_limit % 1025, q.subset_limit % 1025)
+}
+
+fn areas(p: u64, g: u64) -> usize
+    requires { ⌜ (p ≤ 1024) × (g ≤ 1024) ⌝ }
+    ensures { λ r. ⌜ r ≤ 9455616 ⌝ }
+{
+    (9 * (p * (g + 2))) as usize
 }
 
 // Whether an atom is in the mask that isn't among the first n; n is at most 63.

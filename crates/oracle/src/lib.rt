@@ -28,3 +28,13 @@ pub fn answered(kind: u64, value: u64, place: usize) -> Answer {
         place: place,
     }
 }
+
+pub fn is_same(a: Answer, b: Answer) -> bool {
+    if a.kind != b.kind {
+        return false;
+    }
+    if a.value != b.value {
+        return false;
+    }
+    a.place == b.place
+}

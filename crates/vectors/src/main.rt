@@ -1,7 +1,7 @@
-// The engine held against the oracle: the sheets to try of 01 that are not starred, then pseudo-random sheets, each by one of the four calls. Compared
-// are the outcome, the plan shown, every word of a report and every word of workspace and buffer afterwards. Prints the first disagreement, if any, and
+// The engine held against the oracle: the sheets to try of 01 that are not starred, sheets with too many bytes, atoms or rules, then pseudo-random
+// sheets, each by one of the four calls. Compared are the outcome, the plan shown, every word of a report and every word of workspace and buffer afterwards. Prints the first disagreement, if any, and
 // how often each outcome was agreed on.
-ghost use Prim.Native.Nat.{_+_, _*_, _<_, _≤_};
+ghost use Prim.Native.Nat.{_≤_};
 use calls::grounded;
 use expression::Outcome;
 use generator::drawn;
@@ -17,6 +17,8 @@ use oracle::YES;
 use oracle::answered;
 use oracle::answering::answer;
 use oracle::answering::is_answer_set;
+use oracle::checking::workspace_need;
+use oracle::is_same;
 use oracle_tables::Request;
 use outcomes::kind;
 use outcomes::place;
@@ -25,6 +27,10 @@ use plain_calls::plain;
 use report_calls::plain_report;
 use report_calls::report;
 use reporting::Report;
+use tallies::count;
+use tallies::print_counts;
+use tallies::print_disagreement;
+use tallies::print_number;
 
 // ---- the engine's answers in the oracle's form
 
@@ -122,13 +128,6 @@ fn has_zeros(lent: &[u32], n: usize) -> bool {
     is_left(lent, &zeros, n)
 }
 
-// 9 × P × (G + 2).
-fn workspace_need(p: u64, g: u64) -> usize
-    requires { ⌜ (p ≤ 1024) × (g ≤ 1024) ⌝ }
-{
-    (9 * (p * (g + 2))) as usize
-}
-
 // How many words of the workspace a call zeroes: none with 1 to 14.
 fn cleared(q: Request, a: Answer) -> usize {
     if a.kind == REFUSED {
@@ -136,7 +135,7 @@ fn cleared(q: Request, a: Answer) -> usize {
             return 0;
         }
     }
-    workspace_need(q.pair_limit % 1025, q.subset_limit % 1025)
+    workspace_need(q)
 }
 
 // How many words of the buffer it writes: none with a refusal.
@@ -164,16 +163,6 @@ const PLAN: u64 = 33;
 const WORKSPACE: u64 = 34;
 
 const BUFFER: u64 = 35;
-
-fn is_same(a: Answer, b: Answer) -> bool {
-    if a.kind != b.kind {
-        return false;
-    }
-    if a.value != b.value {
-        return false;
-    }
-    a.place == b.place
-}
 
 // Whether both say yes to a decision: each shows a plan of its own.
 fn is_yes(found: Answer, expected: Answer, q: Request) -> bool {
@@ -296,6 +285,63 @@ fn try_listed() {
     io::write_all(STDOUT_FILENO, b"of 3 listed sheets\n");
 }
 
+// ---- refusals that the random sheets are too small for
+
+// A byte too many comes before what the bytes are; without it they are read.
+fn try_long() -> u64
+    ensures { λ r. ⌜ r ≤ 2 ⌝ }
+{
+    let long = [0u8; 4097];
+    let most = [0u8; 4096];
+    listed(&long, 0, 1, 0) + listed(&most, 0, 5, 0)
+}
+
+// Leaves of one kind, each joined at once: a leaf stands at offset 0, and then at every third from 2 on.
+fn leaf_byte(leaf: u8, k: usize) -> u8 {
+    match k {
+        0 => leaf,
+        1 => 0,
+        _ => joined_byte(leaf, k % 3),
+    }
+}
+
+fn joined_byte(leaf: u8, k: usize) -> u8 {
+    match k {
+        0 => 0,
+        1 => 0x21,
+        _ => leaf,
+    }
+}
+
+fn put_leaves(leaf: u8, bytes: &mut [u8]) {
+    let mut k: usize = 0;
+    while k < bytes.len() {
+        bytes[k] = leaf_byte(leaf, k);
+        k += 1;
+    }
+}
+
+fn refused_at(leaf: u8, place: usize, bytes: &mut [u8]) -> u64
+    ensures { λ r. ⌜ r ≤ 1 ⌝ }
+{
+    put_leaves(leaf, bytes);
+    listed(bytes, 0, 9, place)
+}
+
+// 1 where the leaf at an offset is one too many.
+fn crowded(leaf: u8, place: usize) -> u64
+    ensures { λ r. ⌜ r ≤ 1 ⌝ }
+{
+    let mut bytes = [0u8; 770];
+    refused_at(leaf, place, &mut bytes)
+}
+
+// A 64th atom, a 257th rule.
+fn try_large() {
+    print_number(try_long() + crowded(0x11, 188) + crowded(0x12, 767));
+    io::write_all(STDOUT_FILENO, b"of 4 large sheets\n");
+}
+
 // ---- random trials
 
 const TRIALS: u64 = 40000;
@@ -324,12 +370,6 @@ fn try_seed(seed: u64) -> u64 {
     try_request(&bytes[..n], request(more))
 }
 
-// How often each answer of a trial was given.
-fn count(counts: &mut [u64; 64], answer: u64) {
-    let k = (answer % 64) as usize;
-    counts[k] = counts[k] % 4294967296 + 1;
-}
-
 // Up to the first disagreement, which is printed: its seed and its kind.
 fn try_seeds(n: u64, counts: &mut [u64; 64]) {
     let mut seed: u64 = 1;
@@ -346,27 +386,6 @@ fn try_seeds(n: u64, counts: &mut [u64; 64]) {
     }
 }
 
-fn print_disagreement(seed: u64, answer: u64) {
-    print_number(seed);
-    print_number(answer);
-    io::write_all(STDOUT_FILENO, b"disagrees\n");
-}
-
-fn print_number(x: u64) {
-    io::print_decimal(STDOUT_FILENO, x);
-    io::write_all(STDOUT_FILENO, b" ");
-}
-
-fn print_counts(counts: &[u64; 64], from: usize, end: usize)
-    requires { ⌜ end ≤ 64 ⌝ }
-{
-    let mut k = from;
-    while k < end {
-        print_number(counts[k]);
-        k += 1;
-    }
-}
-
 fn print_all(counts: &[u64; 64]) {
     print_counts(counts, 1, 18);
     io::write_all(STDOUT_FILENO, b"refused, by number\n");
@@ -377,6 +396,7 @@ fn print_all(counts: &[u64; 64]) {
 fn main() {
     let mut counts = [0u64; 64];
     try_listed();
+    try_large();
     try_seeds(TRIALS, &mut counts);
     print_all(&counts);
 }

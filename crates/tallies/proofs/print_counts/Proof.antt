@@ -1,8 +1,8 @@
 -- `print_counts` is safe and ends. Assumes nothing.
 use Prim.Native.Nat.{_-_}
 use borrow.Author.Needs.{needs}
-use Rattle.vectors.proofs.print_counts.Statement.{statement}
-use Rattle.vectors.proofs.print_counts.Tie as tie
+use Rattle.tallies.proofs.print_counts.Statement.{statement}
+use Rattle.tallies.proofs.print_counts.Tie as tie
 
 abbrev Inv-loop : tie.InvT-loop
 Inv-loop counts from end k₀ k = Unit {0}
