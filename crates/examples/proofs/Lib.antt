@@ -1,3 +1,4 @@
+pub mod Rules
 pub mod Walk
 pub mod Reports
 pub mod HostWords
