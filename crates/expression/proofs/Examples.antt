@@ -34,9 +34,10 @@ row s P G i o c = record {
   says = c;
 }
 
-cramp : Row → Row
-cramp r = record {
-  asked = record { bytes = r .asked .bytes; pairLimit = r .asked .pairLimit; subsetLimit = r .asked .subsetLimit; room = 0; assumedTrue = r .asked .assumedTrue; assumedFalse = r .asked .assumedFalse };
+-- with other room
+roomed : ℕ → Row → Row
+roomed n r = record {
+  asked = record { bytes = r .asked .bytes; pairLimit = r .asked .pairLimit; subsetLimit = r .asked .subsetLimit; room = n; assumedTrue = r .asked .assumedTrue; assumedFalse = r .asked .assumedFalse };
   says = r .says;
 }
 
@@ -44,6 +45,10 @@ cramp r = record {
 times : ℕ → List ℕ → List ℕ
 times zero s = []
 times (suc n) s = s ++ times n s
+
+-- three commands of five bytes, so that the next one's place is 5
+opening : List ℕ
+opening = 0x11 ∷ 0 ∷ 0x12 ∷ 1 ∷ 0x21 ∷ []
 
 listed : List ℕ
 listed = 0x11 ∷ 0 ∷ 0x12 ∷ 1 ∷ 0x21 ∷ 0x41 ∷ 0 ∷ 1 ∷ []
@@ -63,8 +68,50 @@ rows =
     -- an overlong expression, limits, room and a clash come before what is read
     ∷ row (times 4097 (0 ∷ [])) 0 32 3 1 (Refused 1 0)
     ∷ row [] 0 1025 3 1 (Refused 2 0)
-    ∷ cramp (row [] 1024 1024 3 1 (Refused 3 0))
+    ∷ roomed 0 (row [] 1024 1024 3 1 (Refused 3 0))
     ∷ row [] 32 32 (2 ^ 63) (2 ^ 63) (Refused 4 0)
+    -- 1 alone; with a byte less the bytes are read
+    ∷ row (times 4097 (0 ∷ [])) 32 32 0 0 (Refused 1 0)
+    ∷ row (times 4096 (0 ∷ [])) 32 32 0 0 (Refused 5 0)
+    -- 2 alone, and before 3; the least limits and the greatest
+    ∷ row listed 0 32 0 0 (Refused 2 0)
+    ∷ row listed 32 0 0 0 (Refused 2 0)
+    ∷ row listed 1025 32 0 0 (Refused 2 0)
+    ∷ row listed 32 1025 0 0 (Refused 2 0)
+    ∷ roomed 0 (row listed 1025 32 0 0 (Refused 2 0))
+    ∷ roomed 27 (row listed 1 1 0 0 (passed 1 1 2))
+    ∷ roomed 9455616 (row listed 1024 1024 0 0 (passed 1 1 2))
+    -- 3 alone, by one word
+    ∷ roomed 9791 (row listed 32 32 0 0 (Refused 3 0))
+    ∷ roomed 9792 (row listed 32 32 0 0 (passed 1 1 2))
+    ∷ roomed 9455615 (row listed 1024 1024 0 0 (Refused 3 0))
+    -- 4 alone, and before 5
+    ∷ row listed 32 32 1 1 (Refused 4 0)
+    ∷ row (0x99 ∷ []) 32 32 1 1 (Refused 4 0)
+    -- 5 to 8 by a later command: bytes beside those that are commands; one operand missing, two; an operand of 8, first and second; equal ones
+    ∷ row (opening ++ (0 ∷ [])) 32 32 0 0 (Refused 5 5)
+    ∷ row (opening ++ (0x10 ∷ [])) 32 32 0 0 (Refused 5 5)
+    ∷ row (opening ++ (0x13 ∷ [])) 32 32 0 0 (Refused 5 5)
+    ∷ row (opening ++ (0x22 ∷ [])) 32 32 0 0 (Refused 5 5)
+    ∷ row (opening ++ (0x32 ∷ [])) 32 32 0 0 (Refused 5 5)
+    ∷ row (opening ++ (0x40 ∷ [])) 32 32 0 0 (Refused 5 5)
+    ∷ row (opening ++ (0x44 ∷ [])) 32 32 0 0 (Refused 5 5)
+    ∷ row (opening ++ (0x12 ∷ [])) 32 32 0 0 (Refused 6 5)
+    ∷ row (opening ++ (0x42 ∷ [])) 32 32 0 0 (Refused 6 5)
+    ∷ row (opening ++ (0x43 ∷ 1 ∷ [])) 32 32 0 0 (Refused 6 5)
+    ∷ row (opening ++ (0x12 ∷ 8 ∷ [])) 32 32 0 0 (Refused 7 5)
+    ∷ row (opening ++ (0x31 ∷ 8 ∷ 0 ∷ [])) 32 32 0 0 (Refused 7 5)
+    ∷ row (opening ++ (0x42 ∷ 0 ∷ 8 ∷ [])) 32 32 0 0 (Refused 7 5)
+    ∷ row (opening ++ (0x43 ∷ 7 ∷ 7 ∷ [])) 32 32 0 0 (Refused 8 5)
+    -- 11 by a later command, and of each command with no operand
+    ∷ row (opening ++ (0x21 ∷ [])) 32 32 0 0 (Refused 11 5)
+    ∷ row (0x31 ∷ 0 ∷ 1 ∷ []) 32 32 0 0 (Refused 11 0)
+    ∷ row (0x42 ∷ 0 ∷ 1 ∷ []) 32 32 0 0 (Refused 11 0)
+    ∷ row (0x43 ∷ 0 ∷ 1 ∷ []) 32 32 0 0 (Refused 11 0)
+    -- 12 before 13; the greatest atom there is, and the first that there isn't
+    ∷ row (opening ++ (0x11 ∷ 0 ∷ [])) 32 32 4 0 (Refused 12 7)
+    ∷ row (opening ++ (0x11 ∷ 0 ∷ 0x21 ∷ [])) 32 32 2 1 (passed 2 1 2)
+    ∷ row (opening ++ (0x11 ∷ 0 ∷ 0x21 ∷ [])) 32 32 0 4 (Refused 13 8)
     -- 6 before 7, 7 before 8, 8 before 11
     ∷ row (0x41 ∷ 8 ∷ []) 32 32 0 0 (Refused 6 0)
     ∷ row (0x41 ∷ 8 ∷ 8 ∷ []) 32 32 0 0 (Refused 7 0)
@@ -75,15 +122,17 @@ rows =
     ∷ row (0x11 ∷ 0 ∷ 0x11 ∷ 1 ∷ []) 32 32 0 0 (Refused 12 4)
     -- a ninth operand
     ∷ row (times 9 (0x11 ∷ 0 ∷ [])) 32 32 0 0 (Refused 10 16)
+    ∷ row (times 8 (0x12 ∷ 0 ∷ []) ++ times 7 (0x21 ∷ [])) 32 32 0 0 (passed 0 8 8)
     -- a 64th atom that would also be a ninth operand; 63 atoms are read
     ∷ row (times 8 (0x11 ∷ 0 ∷ []) ++ times 55 (0x21 ∷ 0x11 ∷ 0 ∷ []) ++ (0x11 ∷ 0 ∷ [])) 32 32 0 0 (Refused 9 181)
     ∷ row (0x11 ∷ 0 ∷ times 62 (0x11 ∷ 0 ∷ 0x21 ∷ [])) 32 32 (2 ^ 62) 0 (passed 63 0 2)
+    ∷ row (0x11 ∷ 0 ∷ times 63 (0x11 ∷ 0 ∷ 0x21 ∷ [])) 32 32 0 0 (Refused 9 188)
     ∷ []
 
 right : Row → Bool
 right r = same (check labelCount (r .asked)) (r .says)
 
 examples : every right rows ≡ true
-unfolding every right rows row passed cramp times listed same check checks overlongTest limitsTest crampedTest clashTest faultTest unjoinedTest absentTest isLimit countsOf faultPlace faultNumber isFaulty firstOf reading readFrom behind
+unfolding every right rows row passed roomed times opening listed same check checks overlongTest limitsTest crampedTest clashTest faultTest unjoinedTest absentTest isLimit countsOf faultPlace faultNumber isFaulty firstOf reading readFrom behind
     countFault counted depthAfter newRules newAtoms noCounts readAt readCommand commandOf operandCount isCommand twoOperands oneOperand
 examples = refl
