@@ -490,7 +490,25 @@ fn turn(
     step_to(s, q, p, r, words, ws, model)
 }
 
-// The end: the decision's yes or no.
+// The decision's yes or no, without a plan.
+fn decided(s: &[u8], q: Request, words: &mut [u32; 16512]) -> Answer {
+    let a = answer(s, q, words);
+    answered(a.kind, 0, 0)
+}
+
+// At the end a step changes nothing, and the verdict is the decision.
+fn concluded(
+    s: &[u8],
+    q: Request,
+    r: Record,
+    v: Answer,
+    ws: &mut [u32; 20000],
+    model: &[u32; 20000],
+) -> u64 {
+    let ended = stays(s, q, r, v, answered(ENDED, 0, 0), ws, model);
+    said(ended, AGREED + v.kind % 4, VERDICT)
+}
+
 fn ends(
     s: &[u8],
     q: Request,
@@ -503,9 +521,7 @@ fn ends(
     if !refuses_damage(s, q, r, x, ws, model) {
         return DAMAGE;
     }
-    let k = answer(s, q, words).kind % 4;
-    let ended = stays(s, q, r, answered(k, 0, 0), answered(ENDED, 0, 0), ws, model);
-    said(ended, AGREED + k, VERDICT)
+    concluded(s, q, r, decided(s, q, words), ws, model)
 }
 
 fn walk(
