@@ -1,7 +1,7 @@
 .PHONY: test check
 
-# rt waits for all that it started together, so eight at a time leave less of two cores idle; each takes 1 GB at most.
-RT_JOBS ?= 8
+# rt waits for all that it started together, so six at a time leave less of two cores idle; most take under 1 GB each.
+RT_JOBS ?= 6
 export RT_JOBS
 
 # The gate: every crate proved from nothing, every must-fail edit refused, every program run; then the C tests over what was proved.
