@@ -1,6 +1,6 @@
 .PHONY: test check
 
-# rt waits for all that it started together, so six at a time leave less of two cores idle; most take under 1 GB each.
+# rt waits for all that it started together, so six at a time leave less of two cores idle; each takes 2 GB at most.
 RT_JOBS ?= 6
 export RT_JOBS
 
