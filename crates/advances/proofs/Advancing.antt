@@ -5,16 +5,17 @@ use Prim.Native.Nat.{ℕ, _+_, _-_, _≤_, _<_}
 use native.Mathlib.Omega.{arith}
 use lib.ListN.{length, length-append}
 use Rattle.expression.specs.declared.Command.{Command}
-use Rattle.expression.specs.declared.Command.the-variants.{Atom, Rule, Union, Relabel, Connect}
 use Rattle.expression.specs.Limits.{depthLimit}
+use Rattle.expression.specs.Effects.{effect}
 use Rattle.semantics.specs.Expressions.{Operations, act}
+use Rattle.semantics.proofs.Effects.{act-does}
 use Rattle.rows.specs.Parts.{zeros}
 use Rattle.rows.proofs.Parts.{zeros-long}
 use Rattle.entries.specs.declared.Carry.{Carry}
 use Rattle.entries.specs.Carries.{Entry, Beside}
 use Rattle.workspace.specs.Workspace.{stackCounts, countsOf, Acted}
 use Rattle.stacks.specs.Stacks.{countBelow, Applies, tallied}
-use Rattle.stacks.proofs.Counts.{counts-long, count-newest, count-second, tally-act}
+use Rattle.stacks.proofs.Counts.{counts-long, count-newest, count-second, tally-does}
 use Rattle.operands.specs.Operands.{Loaded}
 use Rattle.operations.specs.Operations.{Meets}
 use Rattle.advances.specs.Advances.{Stands, Advanced}
@@ -46,26 +47,21 @@ module _ {carry : Carry} {d w p : ℕ} {ts : List (List Entry)} {beyond ws vals 
       older = sym (em ∙ ap (countBelow t 2) (h .tallies) ∙ count-second depthLimit t ts e);
     }
 
-    applies : (c : Command) (a : ℕ) → Meets c d t a → Applies c t depthLimit
-    unfolding Applies
-    applies (Atom g) a m = omega (arith, m .0)
-    applies (Rule g) a m = omega (arith, m)
-    applies Union a m = (m, omega (arith, e, deep))
-    applies (Relabel i j) a m = (m, omega (arith, e, deep))
-    applies (Connect k i j) a m = (m, omega (arith, e, deep))
-
     module _ (c : Command) (a : ℕ) (m : Meets c d t a) where
-      pub counts-apply : Applies c t (length counts)
-      counts-apply = rw eight (applies c a m)
+      applies : Applies (effect c) t depthLimit
+      applies = (m .0, omega (arith, e, deep), omega (arith, m .1))
+
+      pub counts-apply : Applies (effect c) t (length counts)
+      counts-apply = rw eight applies
 
       module _ (B : Operations (List Entry)) {r : ℕ} {ws' vals' counts' : List ℕ} (g : Acted carry d w p (act B a c ts) beyond r ws ws' vals') where
-        pub advanced : (r ≤ p → counts' ≡ tallied c t r counts) → (p < r → counts' ≡ counts) → Advanced carry d w p (act B a c ts) beyond r ws counts ws' vals' counts'
+        pub advanced : (r ≤ p → counts' ≡ tallied (effect c) t r counts) → (p < r → counts' ≡ counts) → Advanced carry d w p (act B a c ts) beyond r ws counts ws' vals' counts'
         advanced told same = record {
           most = g .most;
           fault = g .fault;
           stands = λ l. record {
             holds = g .holds l;
-            tallies = told l ∙ rw (h .tallies, sym (g .count l)) (tally-act B a depthLimit t c ts e (applies c a m));
+            tallies = told l ∙ rw (h .tallies, sym (g .count l)) (tally-does depthLimit t (effect c) (act B a c) (act-does B a c) ts e applies);
           };
           same = λ l. (g .same l, same l);
         }

@@ -1,65 +1,26 @@
--- One command of a walk over tables: what it meets, how deep the stack is then, and where the walk goes. Assumes nothing.
+-- One command of a walk over tables: what it meets, and where the walk goes. Assumes nothing.
 use mathlib.Core.Path.{_≡_, refl}
 use mathlib.Core.Bool.{Bool, true, false, cond}
 use mathlib.Core.List.{List, [], _∷_}
-use Prim.Native.Nat.{ℕ, zero, suc, _+_, _-_, _≤_, _<_}
+use Prim.Native.Nat.{ℕ, zero, suc, _+_, _≤_, _<_}
 use native.Mathlib.Omega.{arith}
-use lib.Dec.{ltb, leb}
-use lib.ListN.{length}
-use borrow.Author.Tests.{leb-false, ltb-false, lt-ltb, le-ltb}
+use lib.Dec.{ltb}
+use borrow.Author.Tests.{lt-ltb, le-ltb}
 use Rattle.expression.specs.declared.Command.{Command}
-use Rattle.expression.specs.declared.Command.the-variants.{Atom, Rule, Union, Relabel, Connect}
 use Rattle.expression.specs.declared.Counts.{Counts}
-use Rattle.expression.specs.Limits.{atomLimit, ruleLimit, depthLimit}
+use Rattle.expression.specs.Limits.{depthLimit}
 use Rattle.expression.specs.Refusals.{subsetsFull, plansFull}
-use Rattle.expression.specs.Reading.{newAtoms, depthAfter, countFault, Placed}
-use Rattle.semantics.specs.Expressions.{Operations, act, uniteNewest, changeNewest}
+use Rattle.expression.specs.Reading.{newAtoms, counted, countFault, Placed}
+use Rattle.expression.proofs.Totals.{Limited, counted-limited, passes-needs}
+use Rattle.semantics.specs.Expressions.{Operations, act}
 use Rattle.decisions.specs.Decisions.{stopped, walked, newest, walk}
 use Rattle.workspace.specs.Workspace.{faultOf}
 use Rattle.operations.specs.Operations.{Meets}
 
 -- a command that passes 9 to 11 meets what it needs
-two-tests : (a b : Bool) (m n : ℕ) → cond a (suc m) (cond b (suc n) 0) ≡ 0 → (a ≡ false) × (b ≡ false)
-two-tests true b m n h = absurd (omega arith)
-two-tests false true m n h = absurd (omega arith)
-two-tests false false m n h = (refl, refl)
-
-one-test : (a : Bool) (m : ℕ) → cond a (suc m) 0 ≡ 0 → a ≡ false
-one-test true m h = absurd (omega arith)
-one-test false m h = refl
-
-pub passes-meets : (n : Counts) (c : Command) → countFault n c ≡ 0 → Meets c (depthLimit + 1) (n .depth) (n .atoms)
-unfolding countFault
-passes-meets n (Atom g) h =
-    let t = two-tests (leb atomLimit (n .atoms)) (leb depthLimit (n .depth)) 8 9 h in
-    let x = leb-false atomLimit (n .atoms) (t .0) in
-    let y = leb-false depthLimit (n .depth) (t .1) in (omega arith, x)
-passes-meets n (Rule g) h = let t = two-tests (leb ruleLimit (n .rules)) (leb depthLimit (n .depth)) 8 9 h in let y = leb-false depthLimit (n .depth) (t .1) in omega arith
-passes-meets n Union h = ltb-false (n .depth) 2 (one-test (ltb (n .depth) 2) 10 h)
-passes-meets n (Relabel i j) h = ltb-false (n .depth) 1 (one-test (ltb (n .depth) 1) 10 h)
-passes-meets n (Connect k i j) h = ltb-false (n .depth) 1 (one-test (ltb (n .depth) 1) 10 h)
-
--- how many tables there are then
-pub act-deep : {Y : Type 0} (B : Operations Y) (a d : ℕ) (c : Command) (ys : List Y) → Meets c d (length ys) a → length (act B a c ys) ≡ depthAfter (length ys) c
-unfolding act depthAfter uniteNewest changeNewest
-act-deep B a d (Atom g) ys m = omega arith
-act-deep B a d (Rule g) ys m = omega arith
-act-deep B a d Union [] m = absurd (omega arith)
-act-deep B a d Union (b ∷ []) m = absurd (omega arith)
-act-deep B a d Union (b ∷ x ∷ ys) m = omega arith
-act-deep B a d (Relabel i j) [] m = absurd (omega arith)
-act-deep B a d (Relabel i j) (y ∷ ys) m = refl
-act-deep B a d (Connect k i j) [] m = absurd (omega arith)
-act-deep B a d (Connect k i j) (y ∷ ys) m = refl
-
--- a command leaves a table at least
-pub some-after : (d t a : ℕ) (c : Command) → Meets c d t a → 1 ≤ depthAfter t c
-unfolding depthAfter
-some-after d t a (Atom g) m = omega arith
-some-after d t a (Rule g) m = omega arith
-some-after d t a Union m = omega arith
-some-after d t a (Relabel i j) m = m
-some-after d t a (Connect k i j) m = m
+pub passes-meets : (n : Counts) (c : Command) → countFault n c ≡ 0 → Limited n → Meets c (depthLimit + 1) (n .depth) (n .atoms)
+unfolding counted
+passes-meets n c f l = let k = counted-limited n c f l in (passes-needs n c f, omega (arith, k .depth), k .atoms)
 
 -- ---- the walk
 

@@ -1,4 +1,5 @@
 // A command on the tables of a workspace, with their counts.
+use commands::effects::effect;
 use entries::Carry;
 use expression::Command;
 use expression::limits::DEPTH_LIMIT;
@@ -83,7 +84,7 @@ pub fn advance(
         assumed_false,
     );
     if r <= p {
-        stacks::tally(counts, c, t, r as u64);
+        stacks::tally(counts, effect(c), t, r as u64);
     }
     r
 }

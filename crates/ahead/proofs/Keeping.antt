@@ -9,9 +9,9 @@ use Rattle.lists.specs.Sorted.{compareNumbers, second, Rising, setOf}
 use Rattle.lists.proofs.Canon.{length-canon, length-canon-map}
 use Rattle.labels.specs.Labels.{labelCount}
 use Rattle.expression.specs.declared.Command.{Command}
-use Rattle.expression.specs.declared.Command.the-variants.{Relabel}
+use Rattle.expression.specs.declared.Effect.the-variants.{Change}
 use Rattle.expression.specs.Limits.{depthLimit}
-use Rattle.semantics.specs.Expressions.{Operations, act, changeNewest}
+use Rattle.semantics.specs.Expressions.{changeNewest}
 use Rattle.tables.specs.Definitions.{Pair, subsets}
 use Rattle.decisions.specs.Decisions.{newest, pairsFault}
 use Rattle.values.specs.declared.Value.{Value}
@@ -25,8 +25,8 @@ use Rattle.making.specs.Making.{tableOfAll, FitEntry}
 use Rattle.maps.specs.Maps.{batched, batchedTable, Small}
 use Rattle.workspace.specs.Workspace.{Sound, pairsOf, valuesOf, valuesFrom, HeldValues, Acted}
 use Rattle.workspace.proofs.Faults.{new-rising, of-candidates, no-fault}
-use Rattle.stacks.specs.Stacks.{Applies, tallied}
-use Rattle.stacks.proofs.Counts.{tally-act}
+use Rattle.stacks.specs.Stacks.{tallied}
+use Rattle.stacks.proofs.Counts.{tally-does}
 use Rattle.operations.proofs.Mapping.{batched-rising}
 use Rattle.advances.specs.Advances.{Stands}
 use Rattle.advances.proofs.Steps.{fault-none}
@@ -114,15 +114,10 @@ small-newest carry p (t ∷ ts) vals h g = small-values carry (valuesFrom carry 
 
 -- ---- counts
 
--- operations of which a relabel is f
-abbrev by : (List Entry → List Entry) → Operations (List Entry)
-by f = record { atomOp = λ a g. []; ruleOp = λ g. []; unionOp = λ x y. x; relabelOp = λ i j x. f x; connectOp = λ k i j x. x }
-
 module _ {carry : Carry} {d w p t : ℕ} {ts : List (List Entry)} {beyond ws vals counts : List ℕ} (h : Stands carry d w p ts beyond ws vals counts) (e : length ts ≡ t) (one : 1 ≤ t) (within : t ≤ depthLimit) where
-  pub changed-stands : (f : List Entry → List Entry) {r : ℕ} {ws' vals' counts' : List ℕ} → Acted carry d w p (changeNewest f ts) beyond r ws ws' vals' → r ≤ p → counts' ≡ tallied (Relabel 0 1) t r counts
+  pub changed-stands : (f : List Entry → List Entry) {r : ℕ} {ws' vals' counts' : List ℕ} → Acted carry d w p (changeNewest f ts) beyond r ws ws' vals' → r ≤ p → counts' ≡ tallied Change t r counts
       → Stands carry d w p (changeNewest f ts) beyond ws' vals' counts'
-  unfolding Applies act
   changed-stands f g l told = record {
     holds = g .holds l;
-    tallies = told ∙ rw (h .tallies, sym (g .count l)) (tally-act (by f) 0 depthLimit t (Relabel 0 1) ts e (one, within));
+    tallies = told ∙ rw (h .tallies, sym (g .count l)) (tally-does depthLimit t Change (changeNewest f) (f, λ us. refl) ts e (one, within, within));
   }

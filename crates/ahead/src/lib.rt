@@ -1,8 +1,8 @@
 // The commands ahead in an expression that may be done at once, done on the newest table of a workspace.
 use advances::AREAS;
 use entries::Carry;
-use expression::Command;
 use expression::Counts;
+use expression::Effect;
 use stretches::Stretch;
 ghost use mathlib.Core.Path.{_≡_};
 ghost use mathlib.Core.List.{List};
@@ -38,7 +38,7 @@ fn map_ahead(
 {
     let n = stacks::count_below(&counts[..], t, 1);
     let r = operations::map_newest(ws, row, index, made, vals, carry, AREAS, w, p, t, n, ops);
-    stacks::tally(counts, Command::Relabel(0, 1), t, r as u64);
+    stacks::tally(counts, Effect::Change, t, r as u64);
 }
 
 // The commands from `at` on that may be done at once, done: relabels, connects, rules with the union behind them. n are the counts before them.

@@ -16,6 +16,7 @@ use Rattle.expression.specs.declared.Kind.the-variants.{Head, Positive, Negativ
 use Rattle.expression.specs.declared.Command.{Command}
 use Rattle.expression.specs.declared.Command.the-variants.{Atom, Rule, Union, Relabel, Connect}
 use Rattle.expression.specs.Commands.{Suits}
+use Rattle.expression.specs.Effects.{effect}
 use Rattle.tables.specs.Triples.{markU}
 use Rattle.candidates.specs.Candidates.{mapTriple}
 use Rattle.batches.specs.Batches.{Joins, formed, commandOf, stepTriple}
@@ -102,9 +103,11 @@ rule-word g b = word-is 0 0 g g (omega arith) b (omega arith)
 -- what no batch has
 module _ {c : Command} where
   pub no-atom : (g : ℕ) → c ≡ Atom g → Joins c → ⊥
+  unfolding effect
   no-atom g e h = rw e at h
 
   pub no-union : c ≡ Union → Joins c → ⊥
+  unfolding effect
   no-union e h = rw e at h
 
 -- a step, by the command's form

@@ -10,6 +10,10 @@ use Rattle.labels.specs.Sets.{without}
 use Rattle.expression.specs.declared.Kind.the-variants.{Head, Positive, Negative}
 use Rattle.expression.specs.declared.Command.{Command}
 use Rattle.expression.specs.declared.Command.the-variants.{Atom, Rule, Union, Relabel, Connect}
+use Rattle.expression.specs.declared.Leaf.the-variants as leaf
+use Rattle.expression.specs.declared.Effect.{Effect}
+use Rattle.expression.specs.declared.Effect.the-variants.{Push, Unite, Change, Pass}
+use Rattle.expression.specs.Effects.{effect}
 use Rattle.tables.specs.Triples.{markU, relabelTriple, connectTriple}
 use Rattle.tables.specs.Definitions.{Pair, ownTriple, subsets}
 use Rattle.batches.specs.declared.Judge.{Judge}
@@ -18,13 +22,16 @@ use Rattle.batches.specs.declared.Judge.{Judge}
 abbrev pub batchLimit : ℕ
 batchLimit = 64
 
--- the commands of a batch: a rule stands for the union with it
+-- the commands of a batch: those that change the newest table, and a rule, which stands for the union with it
+abbrev pub JoinsBy : Effect → Type 0
+JoinsBy (Push leaf.Atom) = ⊥
+JoinsBy (Push leaf.Rule) = Unit {0}
+JoinsBy Unite = ⊥
+JoinsBy Change = Unit {0}
+JoinsBy Pass = ⊥
+
 abbrev pub Joins : Command → Type 0
-Joins (Rule g) = Unit {0}
-Joins (Relabel i j) = Unit {0}
-Joins (Connect k i j) = Unit {0}
-Joins (Atom g) = ⊥
-Joins Union = ⊥
+Joins c = JoinsBy (effect c)
 
 -- the command that a word stands for: its form and two labels, in base K
 unfoldable pub formed : ℕ → ℕ → ℕ → Command

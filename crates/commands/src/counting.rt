@@ -5,9 +5,13 @@ ghost use Prim.Native.Nat.{_+_, _-_, min, max};
 ghost use lib.Dec.{ltb, leb};
 ghost use Rattle.expression.specs.Limits.{depthLimit, countLimit};
 ghost use Rattle.expression.specs.Refusals.{crowded, deep, bare};
-ghost use Rattle.expression.specs.Reading.{noCounts, counted, capped, countFault};
+ghost use Rattle.expression.specs.declared.Effect.the-variants.{Push};
+ghost use Rattle.expression.specs.Reading.{noCounts, countedBy, counted, capped, leafFault, countFault};
+use crate::effects::effect;
 use expression::Command;
 use expression::Counts;
+use expression::Effect;
+use expression::Leaf;
 use expression::limits::ATOM_LIMIT;
 use expression::limits::COUNT_LIMIT;
 use expression::limits::DEPTH_LIMIT;
@@ -20,17 +24,26 @@ use expression::refusals::DEEP;
 pub fn count_fault(n: Counts, c: Command) -> u64
     ensures { λ r. ⌜ r ≡ countFault n c ⌝ }
 {
-    match c {
-        Command::Atom(_) => leaf_fault(n.atoms, ATOM_LIMIT, n.depth),
-        Command::Rule(_) => leaf_fault(n.rules, RULE_LIMIT, n.depth),
-        Command::Union => bare_fault(n.depth, 2),
-        Command::Relabel(_, _) => bare_fault(n.depth, 1),
-        Command::Connect(_, _, _) => bare_fault(n.depth, 1),
+    let e = effect(c);
+    match e {
+        Effect::Push(l) => leaf_fault(n, l),
+        Effect::Unite => bare_fault(n.depth, 2),
+        Effect::Change => bare_fault(n.depth, 1),
+        Effect::Pass => bare_fault(n.depth, 1),
     }
 }
 
-// An atom or a rule: 9, then 10.
-fn leaf_fault(count: u64, limit: u64, depth: u64) -> u64
+fn leaf_fault(n: Counts, l: Leaf) -> u64
+    ensures { λ r. ⌜ r ≡ leafFault n l ⌝ }
+{
+    match l {
+        Leaf::Atom => full_fault(n.atoms, ATOM_LIMIT, n.depth),
+        Leaf::Rule => full_fault(n.rules, RULE_LIMIT, n.depth),
+    }
+}
+
+// So many leaves of a kind, and operands: 9, then 10.
+fn full_fault(count: u64, limit: u64, depth: u64) -> u64
     ensures { λ r. ⌜ r ≡ cond (leb limit count) crowded (cond (leb depthLimit depth) deep 0) ⌝ }
 {
     if count >= limit {
@@ -68,12 +81,27 @@ pub fn no_counts() -> Counts
 pub fn counted(n: Counts, c: Command) -> Counts
     ensures { λ r. ⌜ r ≡ capped (counted n c) ⌝ }
 {
-    match c {
-        Command::Atom(_) => at_depth(one_more(n.atoms), n.rules, one_more(n.depth), n.deepest),
-        Command::Rule(_) => at_depth(n.atoms, one_more(n.rules), one_more(n.depth), n.deepest),
-        Command::Union => at_depth(n.atoms, n.rules, one_less(n.depth), n.deepest),
-        Command::Relabel(_, _) => at_depth(n.atoms, n.rules, n.depth, n.deepest),
-        Command::Connect(_, _, _) => at_depth(n.atoms, n.rules, n.depth, n.deepest),
+    counted_by(n, effect(c))
+}
+
+// The same, by its effect.
+pub fn counted_by(n: Counts, e: Effect) -> Counts
+    ensures { λ r. ⌜ r ≡ capped (countedBy n e) ⌝ }
+{
+    match e {
+        Effect::Push(l) => with_leaf(n, l),
+        Effect::Unite => at_depth(n.atoms, n.rules, one_less(n.depth), n.deepest),
+        Effect::Change => at_depth(n.atoms, n.rules, n.depth, n.deepest),
+        Effect::Pass => at_depth(n.atoms, n.rules, n.depth, n.deepest),
+    }
+}
+
+fn with_leaf(n: Counts, l: Leaf) -> Counts
+    ensures { λ r. ⌜ r ≡ capped (countedBy n (Push l)) ⌝ }
+{
+    match l {
+        Leaf::Atom => at_depth(one_more(n.atoms), n.rules, one_more(n.depth), n.deepest),
+        Leaf::Rule => at_depth(n.atoms, one_more(n.rules), one_more(n.depth), n.deepest),
     }
 }
 

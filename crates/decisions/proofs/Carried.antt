@@ -19,7 +19,8 @@ use Rattle.tables.specs.Algebras.{Algebra, tables}
 use Rattle.tables.specs.Triples.{allMet}
 use Rattle.tables.specs.Definitions.{Pair, ownTriple, subsets, triples, pairs, flat, plainAccepts, accepting, groundedAccepts}
 use Rattle.tables.proofs.Answers.{pairs-lawful}
-use Rattle.tables.proofs.Morphisms.{Homomorphism, act-map, Morphism, tables-map, single, single-morphism}
+use Rattle.semantics.proofs.Homomorphisms.{Homomorphism, act-map}
+use Rattle.tables.proofs.Morphisms.{Morphism, tables-map, single, single-morphism}
 use Rattle.values.specs.declared.Value.{Value}
 use Rattle.values.specs.Values.{Values, Valued, valued, lowWords, lowered}
 use Rattle.values.proofs.Items.{items, item-morphism, low-morphism}

@@ -10,7 +10,9 @@ use lib.ListN.{length, getD}
 use borrow.Author.Tests.{ltb-true, ltb-false}
 use Rattle.lists.specs.Lists.{All}
 use Rattle.expression.specs.declared.Command.{Command}
-use Rattle.expression.specs.declared.Command.the-variants.{Atom, Rule, Union, Relabel, Connect}
+use Rattle.expression.specs.declared.Leaf.the-variants as leaf
+use Rattle.expression.specs.declared.Effect.{Effect}
+use Rattle.expression.specs.declared.Effect.the-variants.{Push, Unite, Change, Pass}
 use Rattle.expression.specs.declared.Read.{Read}
 use Rattle.expression.specs.declared.Read.the-variants.{Command as Got, Fault}
 use Rattle.expression.specs.declared.Counts.{Counts}
@@ -20,7 +22,8 @@ use Rattle.expression.specs.declared.Outcome.the-variants as outcome
 use Rattle.expression.specs.Limits.{atomLimit, ruleLimit, depthLimit}
 use Rattle.expression.specs.Refusals.{unknown, cut, group, same, crowded, deep, bare, absent, subsetsFull, plansFull}
 use Rattle.expression.specs.Commands.{oneOperand, twoOperands, isCommand, operandCount, commandOf, readCommand, readAt, refusalOf}
-use Rattle.expression.specs.Reading.{noCounts, counted, countFault, Placed, Reading, faulty, whole, behind, readFrom, reading}
+use Rattle.expression.specs.Effects.{effect}
+use Rattle.expression.specs.Reading.{noCounts, counted, faultBy, countFault, Placed, Reading, faulty, whole, behind, readFrom, reading}
 use Rattle.expression.specs.Checks.{Request, Test, firstOf, faultNumber, overlongTest, limitsTest, crampedTest, clashTest, faultTest, unjoinedTest, absentTest, checks, check}
 use Rattle.expression.proofs.Readings.{from-end, from-fault, from-count-fault, from-step}
 use Rattle.semantics.specs.Expressions.{Operations}
@@ -61,11 +64,14 @@ operand-number false = omega arith
 
 count-number : (n : Counts) (c : Command) → countFault n c ≤ bare
 unfolding countFault
-count-number n (Atom g) = leaf-number (leb atomLimit (n .atoms)) (leb depthLimit (n .depth))
-count-number n (Rule g) = leaf-number (leb ruleLimit (n .rules)) (leb depthLimit (n .depth))
-count-number n Union = operand-number (ltb (n .depth) 2)
-count-number n (Relabel i j) = operand-number (ltb (n .depth) 1)
-count-number n (Connect k i j) = operand-number (ltb (n .depth) 1)
+count-number n c = step (effect c)
+  where
+    step : (e : Effect) → faultBy n e ≤ bare
+    step (Push leaf.Atom) = leaf-number (leb atomLimit (n .atoms)) (leb depthLimit (n .depth))
+    step (Push leaf.Rule) = leaf-number (leb ruleLimit (n .rules)) (leb depthLimit (n .depth))
+    step Unite = operand-number (ltb (n .depth) 2)
+    step Change = operand-number (ltb (n .depth) 1)
+    step Pass = operand-number (ltb (n .depth) 1)
 
 behind-number : (p : Placed) (r : Reading) → faultNumber (behind p r) ≡ faultNumber r
 unfolding faultNumber behind

@@ -19,7 +19,8 @@ use Rattle.expression.specs.declared.Outcome.{Outcome}
 use Rattle.expression.specs.declared.Outcome.the-variants.{Yes, No, Refused}
 use Rattle.expression.specs.Limits.{tableLimit, workspaceNeed}
 use Rattle.expression.specs.Commands.{oneOperand, twoOperands, isCommand, operandCount, commandOf, readCommand, readAt}
-use Rattle.expression.specs.Reading.{noCounts, newAtoms, newRules, depthAfter, counted, countFault, behind, readFrom, reading}
+use Rattle.expression.specs.Effects.{effect}
+use Rattle.expression.specs.Reading.{noCounts, counted, countFault, behind, readFrom, reading}
 use Rattle.expression.specs.Checks.{Request, firstOf, isFaulty, faultNumber, faultPlace, countsOf, isLimit, overlongTest, limitsTest, crampedTest, clashTest, faultTest, unjoinedTest, absentTest, checks, check}
 use Rattle.semantics.specs.Expressions.{fold, uniteNewest, changeNewest, act, actAll, trees}
 use Rattle.semantics.specs.Programs.{numbers}
@@ -118,7 +119,7 @@ right r = sameVerdict (grounded labelCount (r .asked)) (r .says) && shownRight (
 
 starred : every right rows ≡ true
 unfolding every right rows row listed circle twins sameVerdict isSame shownRight shownMasks narrowed keep run numbers grounded plain decide conclude answer walk pairsFault plainFault
-    commandsIn assumed byMasks treeOf expressionOf check checks overlongTest limitsTest crampedTest clashTest faultTest unjoinedTest absentTest isLimit countsOf faultPlace faultNumber isFaulty firstOf reading readFrom behind countFault counted depthAfter newRules newAtoms noCounts readAt readCommand commandOf operandCount isCommand
+    commandsIn assumed byMasks treeOf expressionOf check checks overlongTest limitsTest crampedTest clashTest faultTest unjoinedTest absentTest isLimit countsOf faultPlace faultNumber isFaulty firstOf reading readFrom behind countFault counted effect noCounts readAt readCommand commandOf operandCount isCommand
     twoOperands oneOperand act actAll trees uniteNewest changeNewest fold groundedAccepts plainAccepts accepting allMet pairs triples mapPair unitePairs connectTriple settles relabelTriple markT markF
     markU table tables leaf some products setOf canon insertAll insert compareLists compareNumbers has without replace
 starred = refl
@@ -134,14 +135,14 @@ module _ (P room : ℕ) (low : 2 ≤ P) (high : P ≤ tableLimit) (fits : worksp
 
   narrow-passes : check labelCount asks ≡ Passed (record { atoms = 2; rules = 0; depth = 1; deepest = 2 })
   unfolding twins check checks overlongTest limitsTest crampedTest clashTest faultTest unjoinedTest absentTest isLimit countsOf faultPlace faultNumber isFaulty firstOf reading readFrom behind
-      countFault counted depthAfter newRules newAtoms noCounts readAt readCommand commandOf operandCount isCommand twoOperands oneOperand
+      countFault counted effect noCounts readAt readCommand commandOf operandCount isCommand twoOperands oneOperand
   narrow-passes =
       ap₂ (λ b c. cond (not (b && true)) (stop 2 0) (cond c (stop 3 0) (Passed (record { atoms = 2; rules = 0; depth = 1; deepest = 2 }))))
       (ap₂ _&&_ (lt-ltb 0 P (omega arith)) (lt-ltb P (tableLimit + 1) (omega arith))) (le-ltb room (workspaceNeed P 1) fits)
 
   -- an atom's table has two pairs with a subset at most, that of both a pair with two
   twins-full : grounded labelCount asks ≡ refused 15 4
-  unfolding twins pairsFault commandsIn assumed byMasks reading readFrom behind countFault counted depthAfter newRules newAtoms noCounts readAt readCommand commandOf operandCount isCommand twoOperands
+  unfolding twins pairsFault commandsIn assumed byMasks reading readFrom behind countFault counted effect noCounts readAt readCommand commandOf operandCount isCommand twoOperands
       oneOperand act actAll uniteNewest pairs unitePairs markT markF tables leaf some products setOf canon insertAll insert compareLists compareNumbers has
   twins-full = exceeding-refused labelCount asks narrow-passes (record { command = 2; among = omega arith; before = early; number = fault-full P 1 (tableOn labelCount asks 2) 15 refl (omega arith); place = refl })
     where
@@ -152,7 +153,7 @@ module _ (P room : ℕ) (low : 2 ≤ P) (high : P ≤ tableLimit) (fits : worksp
 
   -- plainly 16 at 4 with P = 2, which is among the rows, and else yes
   twins-plain : 3 ≤ P → plain labelCount asks ≡ affirmed
-  unfolding twins plain plainFault plainAccepts allMet answer commandsIn assumed byMasks reading readFrom behind countFault counted depthAfter newRules newAtoms noCounts readAt readCommand commandOf
+  unfolding twins plain plainFault plainAccepts allMet answer commandsIn assumed byMasks reading readFrom behind countFault counted effect noCounts readAt readCommand commandOf
       operandCount isCommand twoOperands oneOperand act actAll uniteNewest triples markT markF tables leaf some products canon insertAll insert compareNumbers has
   twins-plain three =
       decide-passed (triples labelCount) (plainFault P) (plainAccepts labelCount) labelCount asks narrow-passes
@@ -167,13 +168,13 @@ module _ (P room : ℕ) (low : 2 ≤ P) (high : P ≤ tableLimit) (fits : worksp
 -- ---- the listed table, and with ten labels
 
 listing-8 : table (pairs 8) (byMasks 0 0) (expressionOf 8 listed) ≡ (1 ∷ 131328 ∷ []) ∷ (131328 ∷ []) ∷ []
-unfolding listed commandsIn treeOf expressionOf reading readFrom behind countFault counted depthAfter newRules newAtoms noCounts readAt readCommand commandOf operandCount isCommand twoOperands oneOperand act
+unfolding listed commandsIn treeOf expressionOf reading readFrom behind countFault counted effect noCounts readAt readCommand commandOf operandCount isCommand twoOperands oneOperand act
     actAll trees uniteNewest changeNewest byMasks fold pairs mapPair unitePairs connectTriple settles relabelTriple markT markF markU table tables leaf some products setOf canon insertAll insert compareLists
     compareNumbers has without replace
 listing-8 = refl
 
 listing-10 : table (pairs 10) (byMasks 0 0) (expressionOf 10 listed) ≡ (1 ∷ 2098176 ∷ []) ∷ (2098176 ∷ []) ∷ []
-unfolding listed commandsIn treeOf expressionOf reading readFrom behind countFault counted depthAfter newRules newAtoms noCounts readAt readCommand commandOf operandCount isCommand twoOperands oneOperand act
+unfolding listed commandsIn treeOf expressionOf reading readFrom behind countFault counted effect noCounts readAt readCommand commandOf operandCount isCommand twoOperands oneOperand act
     actAll trees uniteNewest changeNewest byMasks fold pairs mapPair unitePairs connectTriple settles relabelTriple markT markF markU table tables leaf some products setOf canon insertAll insert compareLists
     compareNumbers has without replace
 listing-10 = refl

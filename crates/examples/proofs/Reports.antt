@@ -8,7 +8,8 @@ use Rattle.lists.specs.Sorted.{compareNumbers, compareLists, second, insert, in
 use Rattle.labels.specs.Labels.{labelCount}
 use Rattle.labels.specs.Sets.{has, without, replace}
 use Rattle.expression.specs.Commands.{oneOperand, twoOperands, isCommand, operandCount, commandOf, readCommand, readAt}
-use Rattle.expression.specs.Reading.{noCounts, newAtoms, newRules, depthAfter, counted, countFault, behind, readFrom, reading}
+use Rattle.expression.specs.Effects.{effect}
+use Rattle.expression.specs.Reading.{noCounts, counted, countFault, behind, readFrom, reading}
 use Rattle.expression.specs.Checks.{Request, firstOf, isFaulty, faultNumber, faultPlace, countsOf, isLimit, overlongTest, limitsTest, crampedTest, clashTest, faultTest, unjoinedTest, absentTest, checks, check}
 use Rattle.expression.specs.Places.{locateFrom, locate}
 use Rattle.semantics.specs.Expressions.{uniteNewest, changeNewest, act}
@@ -95,28 +96,28 @@ triplesOf r = askedTable (triples labelCount) (plainFault (r .P)) labelCount (as
 
 answer-examples : map (λ r. reportAnswer (reportOf Pairs) (r .room) (r .offset) (pairsOf r)) rows ≡ map (λ r. r .answers) rows
 unfolding rows row refusal asked listed twins written askedTable startsAt reportOf entryWords before walk commandsIn pairsFault plainFault assumed byMasks locate locateFrom check checks overlongTest limitsTest crampedTest
-    clashTest faultTest unjoinedTest absentTest isLimit countsOf faultPlace faultNumber isFaulty firstOf reading readFrom behind countFault counted depthAfter newRules newAtoms noCounts readAt readCommand
+    clashTest faultTest unjoinedTest absentTest isLimit countsOf faultPlace faultNumber isFaulty firstOf reading readFrom behind countFault counted effect noCounts readAt readCommand
     commandOf operandCount isCommand twoOperands oneOperand act uniteNewest changeNewest pairs triples mapPair unitePairs connectTriple settles relabelTriple markT markF markU tables leaf some products setOf
     canon insertAll insert compareLists compareNumbers has without replace
 answer-examples = refl
 
 buffer-examples : map (λ r. reportBuffer (reportOf Pairs) (replicate (r .room) 9) (pairsOf r)) rows ≡ map (λ r. written (r .room) (r .writes)) rows
 unfolding rows row refusal asked listed twins written askedTable startsAt reportOf entryWords before walk commandsIn pairsFault plainFault assumed byMasks locate locateFrom check checks overlongTest limitsTest crampedTest
-    clashTest faultTest unjoinedTest absentTest isLimit countsOf faultPlace faultNumber isFaulty firstOf reading readFrom behind countFault counted depthAfter newRules newAtoms noCounts readAt readCommand
+    clashTest faultTest unjoinedTest absentTest isLimit countsOf faultPlace faultNumber isFaulty firstOf reading readFrom behind countFault counted effect noCounts readAt readCommand
     commandOf operandCount isCommand twoOperands oneOperand act uniteNewest changeNewest pairs triples mapPair unitePairs connectTriple settles relabelTriple markT markF markU tables leaf some products setOf
     canon insertAll insert compareLists compareNumbers has without replace
 buffer-examples = refl
 
 plain-answer-examples : map (λ r. reportAnswer (λ t. t) (r .room) (r .offset) (triplesOf r)) rows ≡ map (λ r. r .plainly) rows
 unfolding rows row refusal asked listed twins written askedTable startsAt reportOf entryWords before walk commandsIn pairsFault plainFault assumed byMasks locate locateFrom check checks overlongTest limitsTest crampedTest
-    clashTest faultTest unjoinedTest absentTest isLimit countsOf faultPlace faultNumber isFaulty firstOf reading readFrom behind countFault counted depthAfter newRules newAtoms noCounts readAt readCommand
+    clashTest faultTest unjoinedTest absentTest isLimit countsOf faultPlace faultNumber isFaulty firstOf reading readFrom behind countFault counted effect noCounts readAt readCommand
     commandOf operandCount isCommand twoOperands oneOperand act uniteNewest changeNewest pairs triples mapPair unitePairs connectTriple settles relabelTriple markT markF markU tables leaf some products setOf
     canon insertAll insert compareLists compareNumbers has without replace
 plain-answer-examples = refl
 
 plain-buffer-examples : map (λ r. reportBuffer (λ t. t) (replicate (r .room) 9) (triplesOf r)) rows ≡ map (λ r. written (r .room) (r .plainWrites)) rows
 unfolding rows row refusal asked listed twins written askedTable startsAt reportOf entryWords before walk commandsIn pairsFault plainFault assumed byMasks locate locateFrom check checks overlongTest limitsTest crampedTest
-    clashTest faultTest unjoinedTest absentTest isLimit countsOf faultPlace faultNumber isFaulty firstOf reading readFrom behind countFault counted depthAfter newRules newAtoms noCounts readAt readCommand
+    clashTest faultTest unjoinedTest absentTest isLimit countsOf faultPlace faultNumber isFaulty firstOf reading readFrom behind countFault counted effect noCounts readAt readCommand
     commandOf operandCount isCommand twoOperands oneOperand act uniteNewest changeNewest pairs triples mapPair unitePairs connectTriple settles relabelTriple markT markF markU tables leaf some products setOf
     canon insertAll insert compareLists compareNumbers has without replace
 plain-buffer-examples = refl
@@ -136,5 +137,5 @@ small = record { bytes = 0x11 ∷ 0 ∷ []; pairLimit = 1; subsetLimit = 1; room
 
 words-examples : map (λ at. wordsReported labelCount small at (replicate 29 9)) (0 ∷ 1 ∷ 2 ∷ []) ≡ (replicate 27 0 ++ (9 ∷ 9 ∷ [])) ∷ replicate 29 9 ∷ replicate 29 9 ∷ []
 unfolding wordsReported small startsAt locate locateFrom check checks overlongTest limitsTest crampedTest clashTest faultTest unjoinedTest absentTest isLimit countsOf faultPlace faultNumber isFaulty firstOf reading
-    readFrom behind countFault counted depthAfter newRules newAtoms noCounts readAt readCommand commandOf operandCount isCommand twoOperands oneOperand
+    readFrom behind countFault counted effect noCounts readAt readCommand commandOf operandCount isCommand twoOperands oneOperand
 words-examples = refl

@@ -5,7 +5,8 @@ use Prim.Native.Nat.{ℕ, zero, suc}
 use Rattle.labels.specs.Labels.{labelCount}
 use Rattle.expression.specs.declared.Checked.the-variants.{Passed, Refused}
 use Rattle.expression.specs.Commands.{oneOperand, twoOperands, isCommand, operandCount, commandOf, readCommand, readAt}
-use Rattle.expression.specs.Reading.{noCounts, newAtoms, newRules, depthAfter, counted, countFault, behind, readFrom, reading}
+use Rattle.expression.specs.Effects.{effect}
+use Rattle.expression.specs.Reading.{noCounts, counted, countFault, behind, readFrom, reading}
 use Rattle.expression.specs.Checks.{Request, firstOf, isFaulty, faultNumber, faultPlace, countsOf, isLimit, overlongTest, limitsTest, crampedTest, clashTest, faultTest, unjoinedTest, absentTest, checks, check}
 
 -- a rule, and n more, each joined at once
@@ -18,5 +19,5 @@ asked s = record { bytes = s; pairLimit = 32; subsetLimit = 32; room = 9792; ass
 
 rules-examples : map (λ n. check labelCount (asked (rules n))) (255 ∷ 256 ∷ []) ≡ Passed (record { atoms = 0; rules = 256; depth = 1; deepest = 2 }) ∷ Refused 9 767 ∷ []
 unfolding asked rules check checks overlongTest limitsTest crampedTest clashTest faultTest unjoinedTest absentTest isLimit countsOf faultPlace faultNumber isFaulty firstOf reading readFrom behind
-    countFault counted depthAfter newRules newAtoms noCounts readAt readCommand commandOf operandCount isCommand twoOperands oneOperand
+    countFault counted effect noCounts readAt readCommand commandOf operandCount isCommand twoOperands oneOperand
 rules-examples = refl

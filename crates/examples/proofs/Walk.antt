@@ -10,7 +10,8 @@ use Rattle.labels.specs.Sets.{has, without, replace}
 use Rattle.expression.specs.declared.Outcome.{Outcome}
 use Rattle.expression.specs.declared.Outcome.the-variants as outcome
 use Rattle.expression.specs.Commands.{oneOperand, twoOperands, isCommand, operandCount, commandOf, readCommand, readAt}
-use Rattle.expression.specs.Reading.{noCounts, newAtoms, newRules, depthAfter, counted, countFault, behind, readFrom, reading}
+use Rattle.expression.specs.Effects.{effect}
+use Rattle.expression.specs.Reading.{noCounts, counted, countFault, behind, readFrom, reading}
 use Rattle.expression.specs.Checks.{Request, firstOf, isFaulty, faultNumber, faultPlace, countsOf as countsRead, isLimit, overlongTest, limitsTest, crampedTest, clashTest, faultTest, unjoinedTest, absentTest, checks, check}
 use Rattle.expression.specs.Places.{locateFrom, locate}
 use Rattle.semantics.specs.Expressions.{uniteNewest, changeNewest, act}
@@ -96,7 +97,7 @@ starts =
 
 start-examples : map (λ r. start labelCount (asked (r .asks)) (r .asks .held) (r .asks .lent)) starts ≡ map (λ r. r .leaves) starts
 unfolding starts start stays leaving startRecord call pinned at asked rest listed countsOf stackCounts check checks overlongTest limitsTest crampedTest clashTest faultTest unjoinedTest absentTest
-    isLimit countsRead faultPlace faultNumber isFaulty firstOf reading readFrom behind countFault counted depthAfter newRules newAtoms noCounts readAt readCommand commandOf operandCount isCommand
+    isLimit countsRead faultPlace faultNumber isFaulty firstOf reading readFrom behind countFault counted effect noCounts readAt readCommand commandOf operandCount isCommand
     twoOperands oneOperand
 start-examples = refl
 
@@ -124,7 +125,7 @@ leftOf rs = map (λ r. r .leaves) rs
 step-examples : stepsOf moved ≡ leftOf moved
 unfolding moved leaving call pinned at asked rest listed copy bare last step command moveTo moves stays formedAt isFormed areTables isTable areRows isRow isRising risesFrom areZero tablesIn rowsIn pairOf locate locateFrom
     workspaceOf stackWords tableOf rowOf countsOf stackCounts check checks overlongTest limitsTest crampedTest clashTest faultTest unjoinedTest absentTest isLimit countsRead faultPlace faultNumber isFaulty firstOf
-    reading readFrom behind countFault counted depthAfter newRules newAtoms noCounts readAt readCommand commandOf operandCount isCommand twoOperands oneOperand act uniteNewest changeNewest pairsFault assumed byMasks
+    reading readFrom behind countFault counted effect noCounts readAt readCommand commandOf operandCount isCommand twoOperands oneOperand act uniteNewest changeNewest pairsFault assumed byMasks
     pairs mapPair unitePairs connectTriple settles relabelTriple markT markF markU tables leaf some every products setOf canon insertAll insert compareLists compareNumbers has without replace
 step-examples = refl
 
@@ -186,12 +187,12 @@ stills =
 still-examples : map (λ r. step labelCount (asked (r .asks)) (r .asks .held) (r .asks .lent)) stills ≡ map (λ r. leaving (r .asks .held) (r .answers) (r .asks .lent)) stills
 unfolding stills still bad leaving call limited pinned at asked rest listed twins copy bare last step command moveTo moves stays formedAt isFormed areTables isTable areRows isRow isRising risesFrom areZero tablesIn rowsIn pairOf locate locateFrom
     workspaceOf stackWords tableOf rowOf countsOf stackCounts check checks overlongTest limitsTest crampedTest clashTest faultTest unjoinedTest absentTest isLimit countsRead faultPlace faultNumber isFaulty firstOf
-    reading readFrom behind countFault counted depthAfter newRules newAtoms noCounts readAt readCommand commandOf operandCount isCommand twoOperands oneOperand act uniteNewest changeNewest pairsFault assumed byMasks
+    reading readFrom behind countFault counted effect noCounts readAt readCommand commandOf operandCount isCommand twoOperands oneOperand act uniteNewest changeNewest pairsFault assumed byMasks
     pairs mapPair unitePairs connectTriple settles relabelTriple markT markF markU tables leaf some every products setOf canon insertAll insert compareLists compareNumbers has without replace
 still-examples = refl
 
 verdict-examples : map (λ r. verdict labelCount (asked (r .asks)) (r .asks .held) (r .asks .lent)) stills ≡ map (λ r. r .concludes) stills
 unfolding stills still bad call limited pinned at asked rest listed twins copy bare last verdict conclusion formedAt isFormed areTables isTable areRows isRow isRising risesFrom areZero tablesIn rowsIn pairOf locate locateFrom
-    check checks overlongTest limitsTest crampedTest clashTest faultTest unjoinedTest absentTest isLimit countsRead faultPlace faultNumber isFaulty firstOf reading readFrom behind countFault counted depthAfter
-    newRules newAtoms noCounts readAt readCommand commandOf operandCount isCommand twoOperands oneOperand groundedAccepts accepting allMet some every compareLists compareNumbers
+    check checks overlongTest limitsTest crampedTest clashTest faultTest unjoinedTest absentTest isLimit countsRead faultPlace faultNumber isFaulty firstOf reading readFrom behind countFault counted effect
+    noCounts readAt readCommand commandOf operandCount isCommand twoOperands oneOperand groundedAccepts accepting allMet some every compareLists compareNumbers
 verdict-examples = refl

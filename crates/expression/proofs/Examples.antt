@@ -10,7 +10,8 @@ use Rattle.expression.specs.declared.Checked.{Checked}
 use Rattle.expression.specs.declared.Checked.the-variants.{Passed, Refused}
 use Rattle.expression.specs.Limits.{workspaceNeed}
 use Rattle.expression.specs.Commands.{oneOperand, twoOperands, isCommand, operandCount, commandOf, readCommand, readAt}
-use Rattle.expression.specs.Reading.{noCounts, newAtoms, newRules, depthAfter, counted, countFault, behind, readFrom, reading}
+use Rattle.expression.specs.Effects.{effect}
+use Rattle.expression.specs.Reading.{noCounts, counted, countFault, behind, readFrom, reading}
 use Rattle.expression.specs.Checks.{Request, firstOf, isFaulty, faultNumber, faultPlace, countsOf, isLimit, overlongTest, limitsTest, crampedTest, clashTest, faultTest, unjoinedTest, absentTest, checks, check}
 
 same : Checked → Checked → Bool
@@ -134,5 +135,5 @@ right r = same (check labelCount (r .asked)) (r .says)
 
 examples : every right rows ≡ true
 unfolding every right rows row passed roomed times opening listed same check checks overlongTest limitsTest crampedTest clashTest faultTest unjoinedTest absentTest isLimit countsOf faultPlace faultNumber isFaulty firstOf reading readFrom behind
-    countFault counted depthAfter newRules newAtoms noCounts readAt readCommand commandOf operandCount isCommand twoOperands oneOperand
+    countFault counted effect noCounts readAt readCommand commandOf operandCount isCommand twoOperands oneOperand
 examples = refl

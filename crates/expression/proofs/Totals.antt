@@ -3,12 +3,15 @@ use mathlib.Core.Path.{_≡_, refl}
 use mathlib.Core.Bool.{Bool, true, false, cond}
 use Prim.Native.Nat.{ℕ, suc, _≤_, _<_, zero-le}
 use native.Mathlib.Omega.{arith}
-use borrow.Author.Tests.{leb-false}
+use borrow.Author.Tests.{ltb-false, leb-false}
 use Rattle.expression.specs.declared.Command.{Command}
-use Rattle.expression.specs.declared.Command.the-variants.{Atom, Rule, Union, Relabel, Connect}
+use Rattle.expression.specs.declared.Leaf.the-variants as leaf
+use Rattle.expression.specs.declared.Effect.{Effect}
+use Rattle.expression.specs.declared.Effect.the-variants.{Push, Unite, Change, Pass}
 use Rattle.expression.specs.declared.Counts.{Counts}
 use Rattle.expression.specs.Limits.{atomLimit, ruleLimit, depthLimit, countLimit}
-use Rattle.expression.specs.Reading.{noCounts, newAtoms, newRules, depthAfter, counted, capped, countFault}
+use Rattle.expression.specs.Effects.{effect, needs, leaves}
+use Rattle.expression.specs.Reading.{noCounts, countedBy, counted, capped, faultBy, countFault}
 
 pub same-counts : (m n : Counts) → m .atoms ≡ n .atoms → m .rules ≡ n .rules → m .depth ≡ n .depth → m .deepest ≡ n .deepest → m ≡ n
 same-counts m n a r d e = same
@@ -32,12 +35,15 @@ none-at-most m = record { atoms = zero-le; rules = zero-le; depth = zero-le; dee
 
 -- a command has a byte, and adds at most one to each count: so counts are at most the offset
 pub counted-at-most : (m next : ℕ) (n : Counts) (c : Command) → AtMost m n → m < next → AtMost next (counted n c)
-unfolding counted newAtoms newRules depthAfter
-counted-at-most m next n (Atom g) h l = record { atoms = omega arith; rules = omega arith; depth = omega arith; deepest = omega arith }
-counted-at-most m next n (Rule g) h l = record { atoms = omega arith; rules = omega arith; depth = omega arith; deepest = omega arith }
-counted-at-most m next n Union h l = record { atoms = omega arith; rules = omega arith; depth = omega arith; deepest = omega arith }
-counted-at-most m next n (Relabel i j) h l = record { atoms = omega arith; rules = omega arith; depth = omega arith; deepest = omega arith }
-counted-at-most m next n (Connect k i j) h l = record { atoms = omega arith; rules = omega arith; depth = omega arith; deepest = omega arith }
+unfolding counted
+counted-at-most m next n c h l = step (effect c)
+  where
+    step : (e : Effect) → AtMost next (countedBy n e)
+    step (Push leaf.Atom) = record { atoms = omega arith; rules = omega arith; depth = omega arith; deepest = omega arith }
+    step (Push leaf.Rule) = record { atoms = omega arith; rules = omega arith; depth = omega arith; deepest = omega arith }
+    step Unite = record { atoms = omega arith; rules = omega arith; depth = omega arith; deepest = omega arith }
+    step Change = record { atoms = omega arith; rules = omega arith; depth = omega arith; deepest = omega arith }
+    step Pass = record { atoms = omega arith; rules = omega arith; depth = omega arith; deepest = omega arith }
 
 pub capped-same : (m : ℕ) (n : Counts) → AtMost m n → m ≤ countLimit → capped n ≡ n
 unfolding capped
@@ -60,20 +66,41 @@ unrefused true f m h = absurd (omega arith)
 unrefused false f m h = (refl, h)
 
 pub counted-limited : (n : Counts) (c : Command) → countFault n c ≡ 0 → Limited n → Limited (counted n c)
-unfolding countFault counted newAtoms newRules depthAfter
-counted-limited n (Atom g) f h =
-    let p = unrefused _ _ _ f in
-    let a = leb-false atomLimit (n .atoms) (p .0) in
-    let d = leb-false depthLimit (n .depth) (unrefused _ _ _ (p .1) .0) in
-    record { atoms = omega arith; rules = omega arith; depth = omega arith; deepest = omega arith }
-counted-limited n (Rule g) f h =
-    let p = unrefused _ _ _ f in
-    let a = leb-false ruleLimit (n .rules) (p .0) in
-    let d = leb-false depthLimit (n .depth) (unrefused _ _ _ (p .1) .0) in
-    record { atoms = omega arith; rules = omega arith; depth = omega arith; deepest = omega arith }
-counted-limited n Union f h = record { atoms = omega arith; rules = omega arith; depth = omega arith; deepest = omega arith }
-counted-limited n (Relabel i j) f h = record { atoms = omega arith; rules = omega arith; depth = omega arith; deepest = omega arith }
-counted-limited n (Connect k i j) f h = record { atoms = omega arith; rules = omega arith; depth = omega arith; deepest = omega arith }
+unfolding countFault counted
+counted-limited n c f h = step (effect c) f
+  where
+    step : (e : Effect) → faultBy n e ≡ 0 → Limited (countedBy n e)
+    step (Push leaf.Atom) f =
+        let p = unrefused _ _ _ f in
+        let a = leb-false atomLimit (n .atoms) (p .0) in
+        let d = leb-false depthLimit (n .depth) (unrefused _ _ _ (p .1) .0) in
+        record { atoms = omega arith; rules = omega arith; depth = omega arith; deepest = omega arith }
+    step (Push leaf.Rule) f =
+        let p = unrefused _ _ _ f in
+        let a = leb-false ruleLimit (n .rules) (p .0) in
+        let d = leb-false depthLimit (n .depth) (unrefused _ _ _ (p .1) .0) in
+        record { atoms = omega arith; rules = omega arith; depth = omega arith; deepest = omega arith }
+    step Unite f = record { atoms = omega arith; rules = omega arith; depth = omega arith; deepest = omega arith }
+    step Change f = record { atoms = omega arith; rules = omega arith; depth = omega arith; deepest = omega arith }
+    step Pass f = record { atoms = omega arith; rules = omega arith; depth = omega arith; deepest = omega arith }
+
+-- ---- a command that passes 9 to 11 has its operands, and leaves one at least
+
+pub passes-needs : (n : Counts) (c : Command) → countFault n c ≡ 0 → needs (effect c) ≤ n .depth
+unfolding countFault
+passes-needs n c f = step (effect c) f
+  where
+    step : (e : Effect) → faultBy n e ≡ 0 → needs e ≤ n .depth
+    step (Push l) f = zero-le
+    step Unite f = ltb-false (n .depth) 2 (unrefused _ _ _ f .0)
+    step Change f = ltb-false (n .depth) 1 (unrefused _ _ _ f .0)
+    step Pass f = ltb-false (n .depth) 1 (unrefused _ _ _ f .0)
+
+pub leaves-one : (e : Effect) (t : ℕ) → needs e ≤ t → 1 ≤ leaves e t
+leaves-one (Push l) t h = omega arith
+leaves-one Unite t h = omega arith
+leaves-one Change t h = h
+leaves-one Pass t h = h
 
 pub capped-limited : (n : Counts) → Limited n → capped n ≡ n
 unfolding capped

@@ -1,6 +1,7 @@
 pub mod Limits
 pub mod Refusals
 pub mod Commands
+pub mod Effects
 pub mod Reading
 pub mod Checks
 pub mod Places

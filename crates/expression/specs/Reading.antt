@@ -1,50 +1,42 @@
 -- A whole expression read (01, Outcomes: 5 to 11 at the first faulty command), over K labels. Assumes nothing.
 use mathlib.Core.Bool.{true, false, cond}
 use mathlib.Core.List.{List, [], _∷_}
-use Prim.Native.Nat.{ℕ, zero, suc, _+_, _-_, min, max}
+use Prim.Native.Nat.{ℕ, zero, suc, _+_, min, max}
 use lib.Dec.{ltb, leb}
 use lib.ListN.{length}
 use Rattle.expression.specs.declared.Command.{Command}
-use Rattle.expression.specs.declared.Command.the-variants.{Atom, Rule, Union, Relabel, Connect}
+use Rattle.expression.specs.declared.Leaf.{Leaf}
+use Rattle.expression.specs.declared.Leaf.the-variants as leaf
+use Rattle.expression.specs.declared.Effect.{Effect}
+use Rattle.expression.specs.declared.Effect.the-variants.{Push, Unite, Change, Pass}
 use Rattle.expression.specs.declared.Read.the-variants.{Command as Got, Fault}
 use Rattle.expression.specs.declared.Counts.{Counts}
 use Rattle.expression.specs.Limits.{atomLimit, ruleLimit, depthLimit, countLimit}
 use Rattle.expression.specs.Refusals.{crowded, deep, bare}
 use Rattle.expression.specs.Commands.{readAt}
+use Rattle.expression.specs.Effects.{effect, needs, leaves, atomsBy, rulesBy}
 
 -- the counts before the first command
 unfoldable pub noCounts : Counts
 noCounts = record { atoms = 0; rules = 0; depth = 0; deepest = 0 }
 
-unfoldable pub newAtoms : Command → ℕ
-newAtoms (Atom g) = 1
-newAtoms (Rule g) = 0
-newAtoms Union = 0
-newAtoms (Relabel i j) = 0
-newAtoms (Connect k i j) = 0
-
-unfoldable pub newRules : Command → ℕ
-newRules (Atom g) = 0
-newRules (Rule g) = 1
-newRules Union = 0
-newRules (Relabel i j) = 0
-newRules (Connect k i j) = 0
+abbrev pub newAtoms : Command → ℕ
+newAtoms c = atomsBy (effect c)
 
 -- how many operands the stack has after a command on n of them
-unfoldable pub depthAfter : ℕ → Command → ℕ
-depthAfter n (Atom g) = n + 1
-depthAfter n (Rule g) = n + 1
-depthAfter n Union = n - 1
-depthAfter n (Relabel i j) = n
-depthAfter n (Connect k i j) = n
+abbrev pub depthAfter : ℕ → Command → ℕ
+depthAfter n c = leaves (effect c) n
+
+abbrev pub countedBy : Counts → Effect → Counts
+countedBy n e = record {
+  atoms = n .atoms + atomsBy e;
+  rules = n .rules + rulesBy e;
+  depth = leaves e (n .depth);
+  deepest = max (n .deepest) (leaves e (n .depth));
+}
 
 unfoldable pub counted : Counts → Command → Counts
-counted n c = record {
-  atoms = n .atoms + newAtoms c;
-  rules = n .rules + newRules c;
-  depth = depthAfter (n .depth) c;
-  deepest = max (n .deepest) (depthAfter (n .depth) c);
-}
+counted n c = countedBy n (effect c)
 
 -- counts as words of 64 bits hold them: an expression that is too long for memory would have more
 unfoldable pub capped : Counts → Counts
@@ -55,13 +47,20 @@ capped n = record {
   deepest = min (n .deepest) countLimit;
 }
 
--- tests 9 to 11 of a command after such counts, in order; 0 where it passes
+-- a leaf: 9, then 10
+abbrev pub leafFault : Counts → Leaf → ℕ
+leafFault n leaf.Atom = cond (leb atomLimit (n .atoms)) crowded (cond (leb depthLimit (n .depth)) deep 0)
+leafFault n leaf.Rule = cond (leb ruleLimit (n .rules)) crowded (cond (leb depthLimit (n .depth)) deep 0)
+
+-- tests 9 to 11 of an effect after such counts, in order; 0 where it passes
+abbrev pub faultBy : Counts → Effect → ℕ
+faultBy n (Push l) = leafFault n l
+faultBy n Unite = cond (ltb (n .depth) (needs Unite)) bare 0
+faultBy n Change = cond (ltb (n .depth) (needs Change)) bare 0
+faultBy n Pass = cond (ltb (n .depth) (needs Pass)) bare 0
+
 unfoldable pub countFault : Counts → Command → ℕ
-countFault n (Atom g) = cond (leb atomLimit (n .atoms)) crowded (cond (leb depthLimit (n .depth)) deep 0)
-countFault n (Rule g) = cond (leb ruleLimit (n .rules)) crowded (cond (leb depthLimit (n .depth)) deep 0)
-countFault n Union = cond (ltb (n .depth) 2) bare 0
-countFault n (Relabel i j) = cond (ltb (n .depth) 1) bare 0
-countFault n (Connect k i j) = cond (ltb (n .depth) 1) bare 0
+countFault n c = faultBy n (effect c)
 
 -- a command with its place
 pub record Placed : Type 0 where

@@ -18,6 +18,20 @@ pub enum Command {
     Connect(Kind, u32, u32),
 }
 
+// A leaf of an expression.
+pub enum Leaf {
+    Atom,
+    Rule,
+}
+
+// What a command does to the stack: a leaf comes on it, the two newest operands become one, the newest is changed, or all stay as they are.
+pub enum Effect {
+    Push(Leaf),
+    Unite,
+    Change,
+    Pass,
+}
+
 // What stands at an offset: a command and the offset after it, or the number of a refusal.
 pub enum Read {
     Command(Command, usize),

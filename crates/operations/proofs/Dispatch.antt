@@ -2,12 +2,14 @@
 use mathlib.Core.Path.{_≡_, refl, ap, subst}
 use mathlib.Core.List.{List, [], _∷_}
 use Prim.Native.Nat.{ℕ, _+_, _≤_, _<_}
+use native.Mathlib.Omega.{arith}
 use Rattle.labels.specs.Labels.{labelCount}
 use Rattle.expression.specs.declared.Command.{Command}
 use Rattle.expression.specs.declared.Command.the-variants.{Atom, Rule, Union, Relabel, Connect}
 use Rattle.expression.specs.declared.Kind.{Kind}
 use Rattle.expression.specs.Commands.{Suits}
 use Rattle.expression.specs.Limits.{atomLimit}
+use Rattle.expression.specs.Effects.{effect}
 use Rattle.semantics.specs.Expressions.{act, uniteNewest, changeNewest}
 use Rattle.semantics.specs.AnswerSets.{Assumptions}
 use Rattle.tables.specs.Algebras.{leaf, tables}
@@ -86,26 +88,31 @@ module _ (kind : Tables) (carry : Carry) (o : Assumptions) (a : ℕ) where
 
 module _ {c : Command} (d t a : ℕ) where
   pub atom-meets : {g : ℕ} → c ≡ Atom g → Suits labelCount c → Meets c d t a → (g < labelCount) × (t + 1 < d) × (a < atomLimit)
-  unfolding Suits
-  atom-meets e s m = let s' = rw e at s in let m' = rw e at m in (s', m' .0, m' .1)
+  unfolding Suits effect
+  atom-meets e s m = let s' = rw e at s in let m' = rw e at m in (s', m' .1, omega (arith, m' .2))
 
   pub rule-meets : {g : ℕ} → c ≡ Rule g → Suits labelCount c → Meets c d t a → (g < labelCount) × (t + 1 < d)
-  unfolding Suits
-  rule-meets e s m = let s' = rw e at s in let m' = rw e at m in (s', m')
+  unfolding Suits effect
+  rule-meets e s m = let s' = rw e at s in let m' = rw e at m in (s', m' .1)
 
   pub union-meets : c ≡ Union → Meets c d t a → 2 ≤ t
-  union-meets e m = rw e at m
+  unfolding effect
+  union-meets e m = let m' = rw e at m in m' .0
 
   pub relabel-meets : {i j : ℕ} → c ≡ Relabel i j → Meets c d t a → 1 ≤ t
-  relabel-meets e m = rw e at m
+  unfolding effect
+  relabel-meets e m = let m' = rw e at m in m' .0
 
   pub connect-meets : {k : Kind} {i j : ℕ} → c ≡ Connect k i j → Meets c d t a → 1 ≤ t
-  connect-meets e m = rw e at m
+  unfolding effect
+  connect-meets e m = let m' = rw e at m in m' .0
 
 -- a relabel and a connect may be in a batch
 module _ {c : Command} where
   pub relabel-joins : {i j : ℕ} → c ≡ Relabel i j → Joins c
+  unfolding effect
   relabel-joins e = rw e tt
 
   pub connect-joins : {k : Kind} {i j : ℕ} → c ≡ Connect k i j → Joins c
+  unfolding effect
   connect-joins e = rw e tt

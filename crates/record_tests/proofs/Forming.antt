@@ -25,6 +25,7 @@ use Rattle.expression.specs.Places.{locate}
 use Rattle.expression.proofs.Totals.{counted-limited, capped-limited}
 use Rattle.expression.proofs.Accepted.{Accepted, check-accepted}
 use Rattle.semantics.specs.Expressions.{act}
+use Rattle.semantics.proofs.Effects.{act-deep}
 use Rattle.semantics.proofs.Readings.{read-suits}
 use Rattle.tables.specs.Algebras.{tables}
 use Rattle.tables.specs.Definitions.{Pair, pairs}
@@ -34,7 +35,7 @@ use Rattle.entries.specs.declared.Carry.the-variants.{Nothing}
 use Rattle.workspace.specs.Workspace.{stackCounts, countsOf}
 use Rattle.operations.specs.Operations.{Meets}
 use Rattle.advances.specs.Advances.{Stands}
-use Rattle.advances.proofs.Steps.{passes-meets, act-deep}
+use Rattle.advances.proofs.Steps.{passes-meets}
 use Rattle.forms.specs.Forms.{areZero, areTables}
 use Rattle.forms.proofs.Found.{zero-is, found-counts, found-length, found-sound, found-words}
 use Rattle.records.specs.declared.Record.{Record}
@@ -122,7 +123,7 @@ module _ (a : Request) (r : Record) (ws : List ℕ) where
       suits = read-suits labelCount (a .bytes) (r .place) c next read
 
       passes-depth : Meets c (depthLimit + 1) (n .depth) (n .atoms)
-      passes-depth = passes-meets n c (here-passes labelCount (a .bytes) z here read)
+      passes-depth = passes-meets n c (here-passes labelCount (a .bytes) z here read) (here .1 .1)
 
       pub meets : Meets c (depthLimit + 1) (r .tables) (n .atoms)
       meets = rw deep passes-depth
@@ -134,4 +135,4 @@ module _ (a : Request) (r : Record) (ws : List ℕ) where
           let deeper : counted n c .depth ≡ depthAfter (n .depth) c = unfold counted in refl in
           let B = tables (pairs labelCount) (assumed a) in
           let l : length (found labelCount a r ws) ≡ n .depth = found-many ∙ deep in
-          ap (λ (x : Counts). x .depth) same ∙ deeper ∙ sym (act-deep B (n .atoms) (depthLimit + 1) c (found labelCount a r ws) (rw l passes-depth) ∙ ap (λ (k : ℕ). depthAfter k c) l)
+          ap (λ (x : Counts). x .depth) same ∙ deeper ∙ sym (act-deep B (n .atoms) c (found labelCount a r ws) (rw l (passes-depth .0)) ∙ ap (λ (k : ℕ). depthAfter k c) l)

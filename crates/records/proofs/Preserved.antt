@@ -29,7 +29,6 @@ use Rattle.tables.specs.Triples.{markT, markF, markU, relabelTriple, settles, c
 use Rattle.tables.specs.Definitions.{Pair, ownTriple, subsets, unitePairs, mapPair, pairs}
 use Rattle.decisions.specs.Decisions.{pairsFault, newest}
 use Rattle.rows.specs.Rows.{Fit}
-use Rattle.operations.specs.Operations.{Meets}
 use Rattle.records.proofs.Formed.{Formed}
 
 -- no atom is assumed true and false
@@ -227,15 +226,15 @@ module _ (K : ℕ) where
           }
 
       -- one command that exceeds neither
-      pub act-formed : (n d : ℕ) (c : Command) (us : List (List Pair)) → Suits K c → Meets c d (length us) n → All (Formed K (G + 2) P) us → pairsFault P G (newest (act (tables (pairs K) o) n c us)) ≡ 0
+      pub act-formed : (n : ℕ) (c : Command) (us : List (List Pair)) → Suits K c → All (Formed K (G + 2) P) us → pairsFault P G (newest (act (tables (pairs K) o) n c us)) ≡ 0
           → All (Formed K (G + 2) P) (act (tables (pairs K) o) n c us)
       unfolding act uniteNewest changeNewest Suits
-      act-formed n d (Atom g) us s m h e = (shaped-kept _ (atom-shaped n g s) e, h)
-      act-formed n d (Rule g) us s m h e = (shaped-kept _ (rule-shaped g s) e, h)
-      act-formed n d Union [] s m h e = absurd (omega arith)
-      act-formed n d Union (b ∷ []) s m h e = absurd (omega arith)
-      act-formed n d Union (b ∷ a ∷ us) s m h e = (shaped-kept _ (union-shaped a b (kept-shaped a (h .1 .0)) (kept-shaped b (h .0))) e, h .1 .1)
-      act-formed n d (Relabel i j) [] s m h e = absurd (omega arith)
-      act-formed n d (Relabel i j) (t ∷ us) s m h e = (shaped-kept _ (relabel-shaped i j t (s .1) (kept-shaped t (h .0))) e, h .1)
-      act-formed n d (Connect k i j) [] s m h e = absurd (omega arith)
-      act-formed n d (Connect k i j) (t ∷ us) s m h e = (shaped-kept _ (connect-shaped k i j t (kept-shaped t (h .0))) e, h .1)
+      act-formed n (Atom g) us s h e = (shaped-kept _ (atom-shaped n g s) e, h)
+      act-formed n (Rule g) us s h e = (shaped-kept _ (rule-shaped g s) e, h)
+      act-formed n Union [] s h e = h
+      act-formed n Union (b ∷ []) s h e = h
+      act-formed n Union (b ∷ a ∷ us) s h e = (shaped-kept _ (union-shaped a b (kept-shaped a (h .1 .0)) (kept-shaped b (h .0))) e, h .1 .1)
+      act-formed n (Relabel i j) [] s h e = h
+      act-formed n (Relabel i j) (t ∷ us) s h e = (shaped-kept _ (relabel-shaped i j t (s .1) (kept-shaped t (h .0))) e, h .1)
+      act-formed n (Connect k i j) [] s h e = h
+      act-formed n (Connect k i j) (t ∷ us) s h e = (shaped-kept _ (connect-shaped k i j t (kept-shaped t (h .0))) e, h .1)

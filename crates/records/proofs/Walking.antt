@@ -20,18 +20,18 @@ use Rattle.expression.specs.Reading.{noCounts, newAtoms, depthAfter, counted, P
 use Rattle.expression.specs.Checks.{Request, check}
 use Rattle.expression.specs.Places.{locate}
 use Rattle.expression.proofs.Commands.{read-ends}
-use Rattle.expression.proofs.Totals.{capped-limited}
+use Rattle.expression.proofs.Totals.{capped-limited, passes-needs}
 use Rattle.expression.proofs.Accepted.{Accepted, check-accepted}
 use Rattle.expression.proofs.Places.{Ahead, ahead-start, ahead-step, ahead-here}
 use Rattle.expression.proofs.Remaining.{Remains, remains-start, remains-next, remains-end, Next}
 use Rattle.semantics.specs.Expressions.{Operations, act}
+use Rattle.semantics.proofs.Effects.{act-deep}
 use Rattle.semantics.proofs.Readings.{read-suits}
 use Rattle.tables.specs.Algebras.{tables}
 use Rattle.tables.specs.Definitions.{Pair, pairs, groundedAccepts}
 use Rattle.decisions.specs.Decisions.{assumed, commandsIn, pairsFault, newest, Walked, stopped, walked, walk, answer}
 use Rattle.workspace.specs.Workspace.{stackWords, workspaceOf}
-use Rattle.operations.specs.Operations.{Meets}
-use Rattle.advances.proofs.Steps.{passes-meets, act-deep, walk-nil, walk-on, walk-stops}
+use Rattle.advances.proofs.Steps.{walk-nil, walk-on, walk-stops}
 use Rattle.records.specs.declared.Record.{Record}
 use Rattle.records.specs.declared.Progress.{Progress}
 use Rattle.records.specs.declared.Progress.the-variants.{Ended, Refused}
@@ -211,9 +211,6 @@ module _ (K : ℕ) (a : Request) where
         abbrev pub vs : List (List Pair)
         vs = act B (h .counts .atoms) (N .command) us
 
-        meets : Meets (N .command) (depthLimit + 1) (length us) (h .counts .atoms)
-        meets = rw (h .deep) (passes-meets (h .counts) (N .command) (N .passes))
-
         -- the decision's walk from here
         from-here : (i j : ℕ) → j ≡ k + suc i → walk B fault (h .counts .atoms) (record { place = h .at; command = N .command } ∷ take i (N .rest)) us ≡ tablesAfter K a j
         from-here i j e = sym (ap (λ (cs : List Placed). walk B fault (h .counts .atoms) (take (suc i) cs) us) (N .listed)) ∙ h .leads (suc i) j e
@@ -239,8 +236,8 @@ module _ (K : ℕ) (a : Request) where
               ahead = λ asked l.
                   ahead-step K s asked (h .at) (h .counts) (λ q. omega (arith, q, far)) (N .command) (N .next) n (N .read) same (omega (arith, accepted .short))
                   (h .ahead asked (omega (arith, far)));
-              formed = act-formed K (assumed a) apart (a .pairLimit) (a .subsetLimit) (h .counts .atoms) (depthLimit + 1) (N .command) us suits meets (h .formed) e;
-              deep = act-deep B (h .counts .atoms) (depthLimit + 1) (N .command) us meets ∙ ap (λ (m : ℕ). depthAfter m (N .command)) (h .deep);
+              formed = act-formed K (assumed a) apart (a .pairLimit) (a .subsetLimit) (h .counts .atoms) (N .command) us suits (h .formed) e;
+              deep = act-deep B (h .counts .atoms) (N .command) us (rw (h .deep) (passes-needs (h .counts) (N .command) (N .passes))) ∙ ap (λ (m : ℕ). depthAfter m (N .command)) (h .deep);
               leads = λ i j q. sym (walk-on B fault (h .counts .atoms) (h .at) (N .command) (take i (N .rest)) us e) ∙ from-here i j (omega arith);
               calls = ap (λ (x : Step). step K a (x .state) (x .words)) (h .calls) ∙ next-holds e;
             }

@@ -2,24 +2,26 @@
 use mathlib.Core.Path.{_≡_, refl, sym, ap, _∙_, subst}
 use mathlib.Core.Bool.{Bool, true, false, cond}
 use mathlib.Core.List.{List, [], _∷_, map}
-use Prim.Native.Nat.{ℕ, _+_, _<_}
+use Prim.Native.Nat.{ℕ, _+_, _≤_, _<_}
 use native.Mathlib.Omega.{arith}
 use lib.Dec.{ltb}
 use lib.ListN.{length}
 use Rattle.lists.specs.Lists.{All}
 use Rattle.expression.specs.declared.Command.{Command}
-use Rattle.expression.specs.declared.Command.the-variants.{Atom, Rule, Union, Relabel, Connect}
 use Rattle.expression.specs.declared.Counts.{Counts}
 use Rattle.expression.specs.declared.Checked.{Checked}
 use Rattle.expression.specs.declared.Checked.the-variants.{Passed, Refused as Stopped}
 use Rattle.expression.specs.Commands.{Suits}
 use Rattle.expression.specs.Refusals.{offset}
+use Rattle.expression.specs.Effects.{effect}
 use Rattle.expression.specs.Reading.{newAtoms, Placed, noCounts, countFault, reading}
 use Rattle.expression.specs.Checks.{Request, check}
+use Rattle.expression.proofs.Totals.{passes-needs, leaves-one}
 use Rattle.expression.proofs.Checks.{Joined}
 use Rattle.expression.proofs.Accepted.{check-accepted}
 use Rattle.expression.proofs.Remaining.{remains-start, remains-next}
-use Rattle.semantics.specs.Expressions.{Expr, act, actAll, trees, uniteNewest, changeNewest}
+use Rattle.semantics.specs.Expressions.{Expr, act, actAll, trees}
+use Rattle.semantics.proofs.Effects.{act-deep, act-some}
 use Rattle.semantics.proofs.Readings.{commandsOf}
 use Rattle.tables.specs.Algebras.{Algebra, tables, table}
 use Rattle.tables.specs.Exactness.{ExactTables}
@@ -34,35 +36,20 @@ use Rattle.report_calls.proofs.Asked.{starts-within}
 
 -- ---- some tree stands after any command
 
--- a list that is not empty
-abbrev Filled : List Expr → Type 0
-Filled es = (e : Expr) × (fs : List Expr) × (es ≡ e ∷ fs)
-
-filled-act : (n : ℕ) (c : Command) (es : List Expr) → Filled es → Filled (act trees n c es)
-unfolding act trees uniteNewest changeNewest
-filled-act n (Atom g) es h = (_, _, refl)
-filled-act n (Rule g) es h = (_, _, refl)
-filled-act n Union [] h = h
-filled-act n Union (b ∷ []) h = h
-filled-act n Union (b ∷ a ∷ es) h = (_, _, refl)
-filled-act n (Relabel i j) [] h = h
-filled-act n (Relabel i j) (e ∷ es) h = (_, _, refl)
-filled-act n (Connect k i j) [] h = h
-filled-act n (Connect k i j) (e ∷ es) h = (_, _, refl)
-
-filled-all : (n : ℕ) (cs : List Command) (es : List Expr) → Filled es → Filled (actAll trees n cs es)
+some-all : (n : ℕ) (cs : List Command) (es : List Expr) → 1 ≤ length es → 1 ≤ length (actAll trees n cs es)
 unfolding actAll
-filled-all n [] es h = h
-filled-all n (c ∷ cs) es h = filled-all (n + newAtoms c) cs (act trees n c es) (filled-act n c es h)
+some-all n [] es h = h
+some-all n (c ∷ cs) es h = some-all (n + newAtoms c) cs (act trees n c es) (act-some trees n c es h)
 
 -- the first command makes an operand: all others are bare
-filled-first : (c : Command) → countFault noCounts c ≡ 0 → Filled (act trees 0 c [])
-unfolding countFault noCounts act trees
-filled-first (Atom g) h = (_, _, refl)
-filled-first (Rule g) h = (_, _, refl)
-filled-first Union h = absurd (omega arith)
-filled-first (Relabel i j) h = absurd (omega arith)
-filled-first (Connect k i j) h = absurd (omega arith)
+some-first : (c : Command) → countFault noCounts c ≡ 0 → 1 ≤ length (act trees 0 c [])
+unfolding noCounts
+some-first c h = let k = passes-needs noCounts c h in subst (λ m. 1 ≤ m) (sym (act-deep trees 0 c [] k)) (leaves-one (effect c) 0 k)
+
+-- a list that is not empty
+filled-by : (es : List Expr) → 1 ≤ length es → (e : Expr) × (fs : List Expr) × (es ≡ e ∷ fs)
+filled-by [] h = absurd (omega arith)
+filled-by (e ∷ fs) h = (e, fs, refl)
 
 suits-before : (K stop : ℕ) (cs : List Placed) → All (Suits K) (commandsOf cs) → All (Suits K) (commandsOf (before stop cs))
 unfolding before
@@ -91,14 +78,14 @@ module _ (K : ℕ) (a : Request) (at : ℕ) {z : Counts} (passed : check K a ≡
   suit : All (Suits K) cs
   suit = suits-before K (at + 1) (commandsIn (reading K (a .bytes))) (commands-suit K a passed)
 
-  filled : 0 < length (a .bytes) → Filled (actAll trees 0 cs [])
+  filled : 0 < length (a .bytes) → 1 ≤ length (actAll trees 0 cs [])
   unfolding actAll
   filled l =
       let x = remains-next K (a .bytes) 0 noCounts (joined .placed) z l (remains-start K (a .bytes) z joined) in
       let e : placed ≡ record { place = 0; command = x .command } ∷ before (at + 1) (x .rest) =
       ap (before (at + 1)) (read ∙ x .listed) ∙ before-more (at + 1) 0 (x .command) (x .rest) (omega arith) in
-      subst (λ (ps : List Placed). Filled (actAll trees 0 (commandsOf ps) [])) (sym e)
-      (filled-all (0 + newAtoms (x .command)) (commandsOf (before (at + 1) (x .rest))) (act trees 0 (x .command) []) (filled-first (x .command) (x .passes)))
+      subst (λ (ps : List Placed). 1 ≤ length (actAll trees 0 (commandsOf ps) [])) (sym e)
+      (some-all (0 + newAtoms (x .command)) (commandsOf (before (at + 1) (x .rest))) (act trees 0 (x .command) []) (some-first (x .command) (x .passes)))
 
   -- ---- the table asked for is that of the newest part
 
@@ -107,7 +94,7 @@ module _ (K : ℕ) (a : Request) (at : ℕ) {z : Counts} (passed : check K a ≡
     unfolding partAt
     of-part us h =
         let l = starts-within K (a .bytes) at starts in
-        let (e, es, stack) = filled (omega arith) in
+        let (e, es, stack) = filled-by (actAll trees 0 cs []) (filled (omega arith)) in
         let all = subst (All (λ t. ExactTables K t (assumed a))) stack (exact-all K (assumed a) cs suit) in
         record {
           is = ap newest (walk-all (tables A (assumed a)) f 0 placed [] us h ∙ tables-after A (assumed a) placed ∙ ap (map (table A (assumed a))) stack)

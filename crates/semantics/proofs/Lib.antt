@@ -1,4 +1,6 @@
 pub mod Interpretations
+pub mod Homomorphisms
+pub mod Effects
 pub mod Stacks
 pub mod Readings
 pub mod Masks

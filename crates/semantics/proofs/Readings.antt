@@ -1,12 +1,12 @@
 -- What a reading without fault says of the commands: their labels are below K, and the counts are those of the trees that they make. Assumes nothing.
 use mathlib.Core.Path.{_≡_, refl, sym, ap, _∙_, subst}
 use mathlib.Core.Bool.{Bool, true, false, cond, not, _&&_, _||_}
-use mathlib.Core.List.{List, [], _∷_, map}
-use Prim.Native.Nat.{ℕ, zero, suc, _+_, _-_, _≤_, _<_, zero-le}
+use mathlib.Core.List.{List, [], map}
+use Prim.Native.Nat.{ℕ, zero, suc, _+_, _-_, _≤_, _<_}
 use native.Mathlib.Omega.{arith}
 use lib.Dec.{eqb, ltb, leb}
 use lib.ListN.{length, getD}
-use borrow.Author.Tests.{ltb-false, leb-false}
+use borrow.Author.Tests.{leb-false}
 use Rattle.lists.specs.Lists.{All}
 use Rattle.lists.proofs.Members.{or-neither}
 use Rattle.expression.specs.declared.Kind.the-variants.{Head, Positive, Negative}
@@ -18,8 +18,11 @@ use Rattle.expression.specs.declared.Counts.{Counts}
 use Rattle.expression.specs.Limits.{atomLimit}
 use Rattle.expression.specs.Refusals.{unknown, cut, group, same}
 use Rattle.expression.specs.Commands.{oneOperand, twoOperands, isCommand, operandCount, commandOf, readCommand, readAt, Suits}
-use Rattle.expression.specs.Reading.{newAtoms, depthAfter, counted, countFault, Placed, Reading, faulty, whole, noCounts, behind, readFrom, reading}
-use Rattle.semantics.specs.Expressions.{Expr, act, actAll, trees, uniteNewest, changeNewest}
+use Rattle.expression.specs.Effects.{effect, needs}
+use Rattle.expression.specs.Reading.{depthAfter, counted, countFault, Placed, Reading, faulty, whole, noCounts, behind, readFrom, reading}
+use Rattle.expression.proofs.Totals.{Limited, none-limited, counted-limited, passes-needs}
+use Rattle.semantics.specs.Expressions.{Expr, act, actAll, trees}
+use Rattle.semantics.proofs.Effects.{act-deep}
 use Rattle.semantics.proofs.Stacks.{atomsAfter}
 
 -- ---- a command that is read has labels below K
@@ -67,32 +70,6 @@ pub read-suits : (K : ℕ) (s : List ℕ) (at : ℕ) (c : Command) (next : ℕ) 
 unfolding readAt
 read-suits K s at c next h = command-read K at (length s - at) (getD s at 0) (getD s (at + 1) 0) (getD s (at + 2) 0) c next h
 
--- ---- the stack is as deep as it is counted
-
-peel : (b : Bool) (n m : ℕ) → cond b (suc n) m ≡ 0 → (b ≡ false) × (m ≡ 0)
-peel true n m h = absurd (omega arith)
-peel false n m h = (refl, h)
-
-depth-act : (n : Counts) (c : Command) (es : List Expr) → countFault n c ≡ 0 → n .depth ≡ length es → depthAfter (n .depth) c ≡ length (act trees (n .atoms) c es)
-unfolding countFault depthAfter act trees uniteNewest changeNewest
-depth-act n (Atom g) es f h = omega arith
-depth-act n (Rule g) es f h = omega arith
-depth-act n Union [] f h = let k = ltb-false (n .depth) 2 (peel _ _ _ f .0) in absurd (omega arith)
-depth-act n Union (b ∷ []) f h = let k = ltb-false (n .depth) 2 (peel _ _ _ f .0) in absurd (omega arith)
-depth-act n Union (b ∷ a ∷ es) f h = omega arith
-depth-act n (Relabel i j) [] f h = h
-depth-act n (Relabel i j) (e ∷ es) f h = h
-depth-act n (Connect k i j) [] f h = h
-depth-act n (Connect k i j) (e ∷ es) f h = h
-
-few-counted : (n : Counts) (c : Command) → countFault n c ≡ 0 → n .atoms ≤ atomLimit → counted n c .atoms ≤ atomLimit
-unfolding countFault counted newAtoms
-few-counted n (Atom g) f h = let k = leb-false atomLimit (n .atoms) (peel _ _ _ f .0) in omega arith
-few-counted n (Rule g) f h = omega arith
-few-counted n Union f h = omega arith
-few-counted n (Relabel i j) f h = omega arith
-few-counted n (Connect k i j) f h = omega arith
-
 -- ---- a whole reading
 
 abbrev pub commandsOf : List Placed → List Command
@@ -115,21 +92,21 @@ unfolding behind counted actAll atomsAfter
 behind-sound K n es at c (faulty f p) h k = tt
 behind-sound K n es at c (whole cs z) h k = record { suits = (h, k .suits); depth = k .depth; atoms = k .atoms; few = k .few }
 
-from-sound : (K k : ℕ) (s : List ℕ) (at : ℕ) (n : Counts) (es : List Expr) → n .depth ≡ length es → n .atoms ≤ atomLimit → SoundReading K n es (readFrom K k s at n)
+from-sound : (K k : ℕ) (s : List ℕ) (at : ℕ) (n : Counts) (es : List Expr) → n .depth ≡ length es → Limited n → SoundReading K n es (readFrom K k s at n)
 unfolding readFrom actAll atomsAfter
-from-sound K zero s at n es h l = record { suits = tt; depth = h; atoms = refl; few = l }
+from-sound K zero s at n es h l = record { suits = tt; depth = h; atoms = refl; few = l .atoms }
 from-sound K (suc k) s at n es h l = ends (ltb at (length s)) (λ next c e g. from-sound K k s next (counted n c) (act trees (n .atoms) c es) e g)
   where
     Rest : Type 0
-    Rest = (next : ℕ) (c : Command) → counted n c .depth ≡ length (act trees (n .atoms) c es) → counted n c .atoms ≤ atomLimit
+    Rest = (next : ℕ) (c : Command) → counted n c .depth ≡ length (act trees (n .atoms) c es) → Limited (counted n c)
         → SoundReading K (counted n c) (act trees (n .atoms) c es) (readFrom K k s next (counted n c))
 
     counts : (next : ℕ) (c : Command) → Suits K c → Rest → (f : ℕ) → countFault n c ≡ f
         → SoundReading K n es (elim f as (λ x. Reading) [ zero ↦ behind (record { place = at; command = c }) (readFrom K k s next (counted n c)) | suc m ↦ faulty (suc m) at ])
-    counts next c w rest zero e = behind-sound K n es at c (readFrom K k s next (counted n c)) w (rest next c (depth-counted c e) (few-counted n c e l))
+    counts next c w rest zero e = behind-sound K n es at c (readFrom K k s next (counted n c)) w (rest next c depth-counted (counted-limited n c e l))
       where
-        depth-counted : (c : Command) → countFault n c ≡ 0 → counted n c .depth ≡ length (act trees (n .atoms) c es)
-        depth-counted c e = unfold counted in depth-act n c es e h
+        depth-counted : counted n c .depth ≡ length (act trees (n .atoms) c es)
+        depth-counted = unfold counted in ap (λ k. depthAfter k c) h ∙ sym (act-deep trees (n .atoms) c es (subst (λ k. needs (effect c) ≤ k) h (passes-needs n c e)))
     counts next c w rest (suc f) e = tt
 
     reads : Rest → (r : Read) → readAt K s at ≡ r
@@ -148,9 +125,9 @@ from-sound K (suc k) s at n es h l = ends (ltb at (length s)) (λ next c e g. fr
             | Got c next ↦ elim (countFault n c) [ zero ↦ behind (record { place = at; command = c }) (readFrom K k s next (counted n c)) | suc m ↦ faulty (suc m) at ]
           ]
         ])
-    ends false rest = record { suits = tt; depth = h; atoms = refl; few = l }
+    ends false rest = record { suits = tt; depth = h; atoms = refl; few = l .atoms }
     ends true rest = reads rest (readAt K s at) refl
 
 pub reading-sound : (K : ℕ) (s : List ℕ) (cs : List Placed) (z : Counts) → reading K s ≡ whole cs z → Sound K noCounts [] cs z
 unfolding reading noCounts
-reading-sound K s cs z h = subst (SoundReading K noCounts []) h (from-sound K (length s) s 0 noCounts [] refl zero-le)
+reading-sound K s cs z h = subst (SoundReading K noCounts []) h (from-sound K (length s) s 0 noCounts [] refl none-limited)

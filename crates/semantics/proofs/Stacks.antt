@@ -10,30 +10,18 @@ use Rattle.lists.proofs.Runs.{run-append, run-bounds}
 use Rattle.expression.specs.declared.Command.{Command}
 use Rattle.expression.specs.declared.Command.the-variants.{Atom, Rule, Union, Relabel, Connect}
 use Rattle.expression.specs.Commands.{Suits}
+use Rattle.expression.specs.Effects.{effect}
 use Rattle.expression.specs.Reading.{newAtoms}
 use Rattle.semantics.specs.Expressions.{Expr, atom, rule, union, relabel, connect, Operations, fold, uniteNewest, changeNewest, act, actAll, trees}
 use Rattle.semantics.specs.Programs.{numbers}
 use Rattle.semantics.proofs.Interpretations.{Distinct}
+use Rattle.semantics.proofs.Homomorphisms.{act-map, folds}
 
--- ---- one command, on trees and on what is folded from them
-
-pub act-fold : {Y : Type 0} (B : Operations Y) (n : ℕ) (c : Command) (es : List Expr) → map (fold B) (act trees n c es) ≡ act B n c (map (fold B) es)
-unfolding act trees fold uniteNewest changeNewest
-act-fold B n (Atom g) es = refl
-act-fold B n (Rule g) es = refl
-act-fold B n Union [] = refl
-act-fold B n Union (b ∷ []) = refl
-act-fold B n Union (b ∷ a ∷ es) = refl
-act-fold B n (Relabel i j) [] = refl
-act-fold B n (Relabel i j) (e ∷ es) = refl
-act-fold B n (Connect k i j) [] = refl
-act-fold B n (Connect k i j) (e ∷ es) = refl
-
--- on all commands
+-- what is folded from the trees
 pub actAll-fold : {Y : Type 0} (B : Operations Y) (n : ℕ) (cs : List Command) (es : List Expr) → map (fold B) (actAll trees n cs es) ≡ actAll B n cs (map (fold B) es)
 unfolding actAll
 actAll-fold B n [] es = refl
-actAll-fold B n (c ∷ cs) es = actAll-fold B (n + newAtoms c) cs (act trees n c es) ∙ ap (actAll B (n + newAtoms c) cs) (act-fold B n c es)
+actAll-fold B n (c ∷ cs) es = actAll-fold B (n + newAtoms c) cs (act trees n c es) ∙ ap (actAll B (n + newAtoms c) cs) (act-map (folds B) n c es)
 
 -- ---- labels and numbers
 
@@ -75,7 +63,7 @@ chain-union a b es n (lo, len, eb, l, db, (lo′, len′, ea, l′, da, rest)) =
 )
 
 chain-act : (n : ℕ) (d : Command) (es : List Expr) → Chain es n → Chain (act trees n d es) (n + newAtoms d)
-unfolding act trees uniteNewest changeNewest newAtoms Chain numbers run Distinct
+unfolding act trees uniteNewest changeNewest effect Chain numbers run Distinct
 chain-act n (Atom g) es k = (n, 1, refl, refl, tt, k)
 chain-act n (Rule g) es k = (n, 0, refl, refl, tt, k)
 chain-act n Union [] k = add-zero n ∙ k

@@ -8,9 +8,10 @@ use native.Mathlib.Omega.{arith}
 use lib.ListN.{length, drop, getD, set, length-append, List·getD-eq-default}
 use lib.Seq.{set-comm, set-at, getD-at}
 use borrow.Author.Tests.{lt-ltb, le-ltb}
-use Rattle.expression.specs.declared.Command.{Command}
-use Rattle.expression.specs.declared.Command.the-variants.{Atom, Rule, Union, Relabel, Connect}
-use Rattle.semantics.specs.Expressions.{Operations, act, uniteNewest, changeNewest}
+use Rattle.expression.specs.declared.Effect.{Effect}
+use Rattle.expression.specs.declared.Effect.the-variants.{Push, Unite, Change, Pass}
+use Rattle.semantics.specs.Expressions.{uniteNewest, changeNewest}
+use Rattle.semantics.proofs.Effects.{Does}
 use Rattle.decisions.specs.Decisions.{newest}
 use Rattle.rows.specs.Parts.{zeros}
 use Rattle.workspace.specs.Workspace.{stackCounts, countsOf}
@@ -98,15 +99,24 @@ module _ {X : Type 0} where
       ∙ ap (λ (u : List ℕ). set u (t - 2) (length y)) (popped n t b (a ∷ ts) e l)
       ∙ ap (λ (i : ℕ). set (countsOf n (a ∷ ts)) i (length y)) (let z : t - 2 ≡ t - 1 - 1 = omega arith in z) ∙ changed n (t - 1) a y ts (omega arith)
 
-  module _ (B : Operations (List X)) (a n t : ℕ) where
-    pub tally-act : (c : Command) (ts : List (List X)) → length ts ≡ t → Applies c t n → tallied c t (length (newest (act B a c ts))) (countsOf n ts) ≡ countsOf n (act B a c ts)
-    unfolding act Applies tallied uniteNewest changeNewest
-    tally-act (Atom g) ts e h = pushed n t (B .atomOp a g) ts e h
-    tally-act (Rule g) ts e h = pushed n t (B .ruleOp g) ts e h
-    tally-act Union [] e h = absurd (omega (arith, h .0))
-    tally-act Union (y ∷ []) e h = absurd (omega (arith, h .0))
-    tally-act Union (y ∷ x ∷ ts) e h = united n t x y (B .unionOp x y) ts e (h .1)
-    tally-act (Relabel i j) [] e h = absurd (omega (arith, h .0))
-    tally-act (Relabel i j) (x ∷ ts) e h = changed n t x (B .relabelOp i j x) ts e
-    tally-act (Connect k i j) [] e h = absurd (omega (arith, h .0))
-    tally-act (Connect k i j) (x ∷ ts) e h = changed n t x (B .connectOp k i j x) ts e
+  module _ (n t : ℕ) where
+    tally-united : (g : List X → List X → List X) (ts : List (List X)) → length ts ≡ t → 2 ≤ t → t ≤ n
+        → set (set (countsOf n ts) (t - 2) (length (newest (uniteNewest g ts)))) (t - 1) 0 ≡ countsOf n (uniteNewest g ts)
+    unfolding uniteNewest
+    tally-united g [] e h l = absurd (omega arith)
+    tally-united g (y ∷ []) e h l = absurd (omega arith)
+    tally-united g (y ∷ x ∷ ts) e h l = united n t x y (g x y) ts e l
+
+    tally-changed : (g : List X → List X) (ts : List (List X)) → length ts ≡ t → 1 ≤ t → set (countsOf n ts) (t - 1) (length (newest (changeNewest g ts))) ≡ countsOf n (changeNewest g ts)
+    unfolding changeNewest
+    tally-changed g [] e h = absurd (omega arith)
+    tally-changed g (x ∷ ts) e h = changed n t x (g x) ts e
+
+    -- the counts follow what an effect does to the tables
+    pub tally-does : (e : Effect) (f : List (List X) → List (List X)) → Does e f → (ts : List (List X)) → length ts ≡ t → Applies e t n
+        → tallied e t (length (newest (f ts))) (countsOf n ts) ≡ countsOf n (f ts)
+    unfolding tallied
+    tally-does (Push l) f d ts e h = rw (d .1 ts) (pushed n t (d .0) ts e (omega (arith, h .2)))
+    tally-does Unite f d ts e h = rw (d .1 ts) (tally-united (d .0) ts e (h .0) (h .1))
+    tally-does Change f d ts e h = rw (d .1 ts) (tally-changed (d .0) ts e (h .0))
+    tally-does Pass f d ts e h = rw (d ts)

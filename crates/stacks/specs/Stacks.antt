@@ -2,14 +2,15 @@
 use mathlib.Core.Path.{_≡_}
 use mathlib.Core.Bool.{cond}
 use mathlib.Core.List.{List, _++_}
-use Prim.Native.Nat.{ℕ, _-_, _≤_, _<_}
+use Prim.Native.Nat.{ℕ, _-_, _≤_}
 use lib.Dec.{ltb}
 use lib.ListN.{length, drop, getD, set}
 use Rattle.lists.specs.Lists.{All}
 use Rattle.expression.specs.declared.Checked.the-variants as checked
-use Rattle.expression.specs.declared.Command.{Command}
-use Rattle.expression.specs.declared.Command.the-variants.{Atom, Rule, Union, Relabel, Connect}
+use Rattle.expression.specs.declared.Effect.{Effect}
+use Rattle.expression.specs.declared.Effect.the-variants.{Push, Unite, Change, Pass}
 use Rattle.expression.specs.Limits.{workspaceNeed}
+use Rattle.expression.specs.Effects.{needs, leaves}
 use Rattle.expression.specs.Checks.{Request, check}
 use Rattle.tables.specs.Definitions.{Pair}
 use Rattle.rows.specs.Parts.{zeros}
@@ -27,21 +28,16 @@ wordsAfter K a ws = elim (check K a) [ checked.Passed z ↦ cleared (workspaceNe
 abbrev pub countBelow : ℕ → ℕ → List ℕ → ℕ
 countBelow t k counts = cond (ltb t k) 0 (getD counts (t - k) 0)
 
--- t tables have the operands of a command, and n counts have room for what it leaves
-unfoldable pub Applies : Command → ℕ → ℕ → Type 0
-Applies (Atom g) t n = t < n
-Applies (Rule g) t n = t < n
-Applies Union t n = (2 ≤ t) × (t ≤ n)
-Applies (Relabel i j) t n = (1 ≤ t) × (t ≤ n)
-Applies (Connect k i j) t n = (1 ≤ t) × (t ≤ n)
+-- t tables have the operands that an effect needs, and n counts have room for them and for what it leaves
+abbrev pub Applies : Effect → ℕ → ℕ → Type 0
+Applies e t n = (needs e ≤ t) × (t ≤ n) × (leaves e t ≤ n)
 
--- the counts after a command on t tables whose newest table then has r entries
-unfoldable pub tallied : Command → ℕ → ℕ → List ℕ → List ℕ
-tallied (Atom g) t r counts = set counts t r
-tallied (Rule g) t r counts = set counts t r
-tallied Union t r counts = set (set counts (t - 2) r) (t - 1) 0
-tallied (Relabel i j) t r counts = set counts (t - 1) r
-tallied (Connect k i j) t r counts = set counts (t - 1) r
+-- the counts after a command of such an effect on t tables, whose newest table then has r entries
+unfoldable pub tallied : Effect → ℕ → ℕ → List ℕ → List ℕ
+tallied (Push l) t r counts = set counts t r
+tallied Unite t r counts = set (set counts (t - 2) r) (t - 1) 0
+tallied Change t r counts = set counts (t - 1) r
+tallied Pass t r counts = counts
 
 -- a workspace of d areas holds the t tables, and the first t counts are theirs
 pub record Counted (d w p t : ℕ) (ts : List (List Pair)) (beyond counts ws : List ℕ) : Type 0 where

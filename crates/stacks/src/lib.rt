@@ -1,5 +1,5 @@
 // The counts of a stack of tables beside its workspace, and a workspace cleared.
-use expression::Command;
+use expression::Effect;
 ghost use mathlib.Core.Path.{_≡_};
 ghost use mathlib.Core.List.{List, [], _++_};
 ghost use Prim.Native.Nat.{ℕ, _≤_};
@@ -20,20 +20,19 @@ pub fn count_below(counts: &[u64], t: usize, k: usize) -> usize
     counts[t - k] as usize
 }
 
-// The counts after a command on t tables whose newest table then has r entries.
-pub fn tally(counts: &mut [u64], c: Command, t: usize, r: u64)
-    requires { ⌜ Applies c t (length (now counts)) ⌝ }
-    ensures { λ _. ⌜ now (counts .exit) ≡ tallied c t r (now (counts .entry)) ⌝ }
+// The counts after a command of such an effect on t tables, whose newest table then has r entries.
+pub fn tally(counts: &mut [u64], e: Effect, t: usize, r: u64)
+    requires { ⌜ Applies e t (length (now counts)) ⌝ }
+    ensures { λ _. ⌜ now (counts .exit) ≡ tallied e t r (now (counts .entry)) ⌝ }
 {
-    match c {
-        Command::Atom(_) => counts[t] = r,
-        Command::Rule(_) => counts[t] = r,
-        Command::Union => {
+    match e {
+        Effect::Push(_) => counts[t] = r,
+        Effect::Unite => {
             counts[t - 2] = r;
             counts[t - 1] = 0;
         }
-        Command::Relabel(_, _) => counts[t - 1] = r,
-        Command::Connect(_, _, _) => counts[t - 1] = r,
+        Effect::Change => counts[t - 1] = r,
+        Effect::Pass => {}
     }
 }
 

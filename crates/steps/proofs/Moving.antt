@@ -13,7 +13,8 @@ use Rattle.semantics.specs.AnswerSets.{byMasks}
 use Rattle.tables.specs.Algebras.{tables}
 use Rattle.tables.specs.Definitions.{Pair, pairs}
 use Rattle.tables.proofs.Answers.{pairs-lawful}
-use Rattle.tables.proofs.Morphisms.{tables-map, act-map}
+use Rattle.semantics.proofs.Homomorphisms.{act-map}
+use Rattle.tables.proofs.Morphisms.{tables-map}
 use Rattle.values.proofs.Items.{item-morphism}
 use Rattle.decisions.specs.Decisions.{assumed, pairsFault, newest}
 use Rattle.entries.specs.declared.Carry.the-variants.{Nothing}

@@ -1,49 +1,51 @@
 -- Commands that may be done at once, read one after the other. Assumes nothing.
-use mathlib.Core.Path.{_≡_, refl}
+use mathlib.Core.Path.{_≡_, refl, sym, ap, _∙_, subst}
 use mathlib.Core.List.{List, [], _∷_, _++_, map-append}
 use Prim.Native.Nat.{ℕ, _+_, _<_}
 use native.Mathlib.Numerals.{add-one}
 use lib.ListN.{length, take, set}
 use lib.Seq.{take-suc-set}
 use Rattle.labels.specs.Labels.{labelCount}
-use Rattle.expression.specs.declared.Kind.{Kind}
 use Rattle.expression.specs.declared.Command.{Command}
-use Rattle.expression.specs.declared.Command.the-variants.{Atom, Rule, Union, Relabel, Connect}
+use Rattle.expression.specs.declared.Command.the-variants.{Union}
+use Rattle.expression.specs.declared.Leaf.the-variants as leaf
+use Rattle.expression.specs.declared.Effect.{Effect}
+use Rattle.expression.specs.declared.Effect.the-variants.{Push, Unite, Change, Pass}
 use Rattle.expression.specs.declared.Counts.{Counts}
 use Rattle.expression.specs.declared.Read.the-variants.{Command as Got}
 use Rattle.expression.specs.Commands.{Suits, readAt}
-use Rattle.expression.specs.Reading.{counted, capped}
+use Rattle.expression.specs.Effects.{effect}
 use Rattle.semantics.proofs.Readings.{read-suits}
-use Rattle.batches.specs.Batches.{Joins, commandOf, commandsOf}
-use Rattle.stretches.specs.Stretches.{Spelt, Chain, joinedCounts, chainCounts}
+use Rattle.batches.specs.Batches.{JoinsBy, Joins, commandOf, commandsOf}
+use Rattle.stretches.specs.Stretches.{SpeltAs, Spelt, Chain, joinedBy, joinedCounts, chainCounts}
 
 module _ (K : ℕ) (s : List ℕ) (stop : ℕ) where
-  module _ (at next : ℕ) (c : Command) (e : readAt K s at ≡ Got c next) where
-    pub relabel-spelt : {i j : ℕ} → c ≡ Relabel i j → Spelt K s stop at c next
-    relabel-spelt h = rw h (rw h at e)
+  -- what stands at an offset, by the effect of the command read there
+  pub spelt-by : (at next : ℕ) (c : Command) {e : Effect} → effect c ≡ e → SpeltAs K s stop e at c next → Spelt K s stop at c next
+  spelt-by at next c {e} h k = subst (λ (x : Effect). SpeltAs K s stop x at c next) (sym h) k
 
-    pub connect-spelt : {k : Kind} {i j : ℕ} → c ≡ Connect k i j → Spelt K s stop at c next
-    connect-spelt h = rw h (rw h at e)
-
-    pub rule-read : {g : ℕ} → c ≡ Rule g → readAt K s at ≡ Got (Rule g) next
-    rule-read h = rw h at e
-
-    pub union-read : c ≡ Union → readAt K s at ≡ Got Union next
-    union-read h = rw h at e
+  pub union-read : (at next : ℕ) (c : Command) → readAt K s at ≡ Got c next → c ≡ Union → readAt K s at ≡ Got Union next
+  union-read at next c e h = rw h at e
 
   pub spelt-suits : (at next : ℕ) (c : Command) → Spelt K s stop at c next → Suits K c
-  spelt-suits at next (Relabel i j) e = read-suits K s at (Relabel i j) next e
-  spelt-suits at next (Connect k i j) e = read-suits K s at (Connect k i j) next e
-  spelt-suits at next (Rule g) e = read-suits K s at (Rule g) (e .0) (e .1)
-  spelt-suits at next (Atom g) e = absurd e
-  spelt-suits at next Union e = absurd e
+  spelt-suits at next c h = step (effect c) h
+    where
+      step : (e : Effect) → SpeltAs K s stop e at c next → Suits K c
+      step (Push leaf.Atom) h = absurd h
+      step (Push leaf.Rule) h = read-suits K s at c (h .0) (h .1)
+      step Unite h = absurd h
+      step Change h = read-suits K s at c next h
+      step Pass h = absurd h
 
   pub spelt-joins : (at next : ℕ) (c : Command) → Spelt K s stop at c next → Joins c
-  spelt-joins at next (Relabel i j) e = tt
-  spelt-joins at next (Connect k i j) e = tt
-  spelt-joins at next (Rule g) e = tt
-  spelt-joins at next (Atom g) e = e
-  spelt-joins at next Union e = e
+  spelt-joins at next c h = step (effect c) h
+    where
+      step : (e : Effect) → SpeltAs K s stop e at c next → JoinsBy e
+      step (Push leaf.Atom) h = h
+      step (Push leaf.Rule) h = tt
+      step Unite h = h
+      step Change h = tt
+      step Pass h = h
 
   -- one command more
   pub chain-more : (at end next : ℕ) (c : Command) (cs : List Command) → end < stop → Spelt K s stop end c next → Chain K s stop at end cs → Chain K s stop at next (cs ++ c ∷ [])
@@ -69,24 +71,7 @@ counts-none n = refl
 pub word-more : (ops : List ℕ) (k w : ℕ) (c : Command) → k < length ops → commandOf labelCount w ≡ c → commandsOf (take (k + 1) (set ops k w)) ≡ commandsOf (take k ops) ++ c ∷ []
 word-more ops k w c l e = rw (add-one k, take-suc-set ops k w l, map-append (commandOf labelCount) (take k ops) (w ∷ []), e)
 
--- the counts, by the command's form
-module _ (n m : Counts) (c : Command) (e : m ≡ capped (counted n c)) where
-  pub rule-counts : {g : ℕ} {r : Counts} → c ≡ Rule g → r ≡ capped (counted m Union) → r ≡ joinedCounts n c
-  unfolding joinedCounts
-  rule-counts h k = rw (k, e, h)
-
-  pub atom-counts : {g : ℕ} → c ≡ Atom g → m ≡ joinedCounts n c
-  unfolding joinedCounts
-  atom-counts h = rw (e, h)
-
-  pub union-counts : c ≡ Union → m ≡ joinedCounts n c
-  unfolding joinedCounts
-  union-counts h = rw (e, h)
-
-  pub relabel-counts : {i j : ℕ} → c ≡ Relabel i j → m ≡ joinedCounts n c
-  unfolding joinedCounts
-  relabel-counts h = rw (e, h)
-
-  pub connect-counts : {k : Kind} {i j : ℕ} → c ≡ Connect k i j → m ≡ joinedCounts n c
-  unfolding joinedCounts
-  connect-counts h = rw (e, h)
+-- the counts, by the effect
+pub counts-by : (n : Counts) (c : Command) {e : Effect} {r : Counts} → effect c ≡ e → r ≡ joinedBy n e → r ≡ joinedCounts n c
+unfolding joinedCounts
+counts-by n c h k = k ∙ ap (joinedBy n) (sym h)

@@ -3,22 +3,29 @@ use mathlib.Core.Path.{_≡_}
 use mathlib.Core.List.{List, [], _∷_}
 use Prim.Native.Nat.{ℕ, _<_}
 use Rattle.expression.specs.declared.Command.{Command}
-use Rattle.expression.specs.declared.Command.the-variants.{Atom, Rule, Union, Relabel, Connect}
+use Rattle.expression.specs.declared.Command.the-variants.{Union}
+use Rattle.expression.specs.declared.Leaf.the-variants as leaf
+use Rattle.expression.specs.declared.Effect.{Effect}
+use Rattle.expression.specs.declared.Effect.the-variants.{Push, Unite, Change, Pass}
 use Rattle.expression.specs.declared.Counts.{Counts}
 use Rattle.expression.specs.declared.Read.the-variants.{Command as Got}
 use Rattle.expression.specs.Commands.{readAt}
-use Rattle.expression.specs.Reading.{counted, capped}
+use Rattle.expression.specs.Effects.{effect}
+use Rattle.expression.specs.Reading.{countedBy, capped}
 use Rattle.stretches.specs.declared.Joined.{Joined}
 use Rattle.stretches.specs.declared.Joined.the-variants.{By, Other}
 
 module _ (K : ℕ) (s : List ℕ) (stop : ℕ) where
-  -- at an offset stands such a command, and `next` is the offset after it; a rule's union starts before `stop`
+  -- at an offset stands a command c of such an effect, and `next` is the offset after it; a rule's union starts before `stop`
+  abbrev pub SpeltAs : Effect → ℕ → Command → ℕ → Type 0
+  SpeltAs (Push leaf.Atom) at c next = ⊥
+  SpeltAs (Push leaf.Rule) at c next = (mid : ℕ) × (readAt K s at ≡ Got c mid) × (mid < stop) × (readAt K s mid ≡ Got Union next)
+  SpeltAs Unite at c next = ⊥
+  SpeltAs Change at c next = readAt K s at ≡ Got c next
+  SpeltAs Pass at c next = ⊥
+
   abbrev pub Spelt : ℕ → Command → ℕ → Type 0
-  Spelt at (Relabel i j) next = readAt K s at ≡ Got (Relabel i j) next
-  Spelt at (Connect k i j) next = readAt K s at ≡ Got (Connect k i j) next
-  Spelt at (Rule g) next = (mid : ℕ) × (readAt K s at ≡ Got (Rule g) mid) × (mid < stop) × (readAt K s mid ≡ Got Union next)
-  Spelt at (Atom g) next = ⊥
-  Spelt at Union next = ⊥
+  Spelt at c next = SpeltAs (effect c) at c next
 
   abbrev pub SpeltBy : ℕ → Joined → Type 0
   SpeltBy at (By c next) = Spelt at c next
@@ -29,13 +36,15 @@ module _ (K : ℕ) (s : List ℕ) (stop : ℕ) where
   Chain at end [] = at ≡ end
   Chain at end (c ∷ cs) = (at < stop) × ((next : ℕ) × Spelt at c next × Chain next end cs)
 
--- what they leave of the counts
+-- what they leave of the counts: a leaf has its union behind it
+abbrev pub joinedBy : Counts → Effect → Counts
+joinedBy n (Push l) = capped (countedBy (capped (countedBy n (Push l))) Unite)
+joinedBy n Unite = capped (countedBy n Unite)
+joinedBy n Change = capped (countedBy n Change)
+joinedBy n Pass = capped (countedBy n Pass)
+
 unfoldable pub joinedCounts : Counts → Command → Counts
-joinedCounts n (Rule g) = capped (counted (capped (counted n (Rule g))) Union)
-joinedCounts n (Atom g) = capped (counted n (Atom g))
-joinedCounts n Union = capped (counted n Union)
-joinedCounts n (Relabel i j) = capped (counted n (Relabel i j))
-joinedCounts n (Connect k i j) = capped (counted n (Connect k i j))
+joinedCounts n c = joinedBy n (effect c)
 
 unfoldable pub chainCounts : Counts → List Command → Counts
 chainCounts n [] = n

@@ -1,7 +1,10 @@
 // Commands that may be done at once on the newest table, read from an expression: relabels, connects, and a rule with the union behind it.
-use commands::counting::counted;
+use commands::counting::counted_by;
+use commands::effects::effect;
 use expression::Command;
 use expression::Counts;
+use expression::Effect;
+use expression::Leaf;
 use expression::Read;
 use reader::read_next;
 ghost use mathlib.Core.Path.{_≡_};
@@ -9,8 +12,9 @@ ghost use Prim.Native.Nat.{ℕ, _≤_};
 ghost use lib.ListN.{length, take};
 ghost use Rattle.labels.specs.Labels.{labelCount};
 ghost use Rattle.expression.specs.declared.Read.the-variants.{Command as Got};
-ghost use Rattle.expression.specs.declared.Command.the-variants.{Rule};
+ghost use Rattle.expression.specs.declared.Effect.the-variants.{Push};
 ghost use Rattle.expression.specs.Commands.{readAt};
+ghost use Rattle.expression.specs.Effects.{effect};
 ghost use Rattle.batches.specs.Batches.{commandsOf};
 ghost use Rattle.stretches.specs.Stretches.{SpeltBy, Chain, joinedCounts, chainCounts};
 
@@ -27,24 +31,24 @@ pub struct Stretch {
     pub counts: Counts,
 }
 
-// A rule of label g that ends at `mid`, if a union that starts before `stop` stands there.
-fn with_union(s: &[u8], stop: usize, g: u32, mid: usize) -> Joined
-    ensures { λ r. ⌜ ((at : ℕ) → readAt labelCount (now (s .entry)) at ≡ Got (Rule g) mid → SpeltBy labelCount (now (s .entry)) stop at r) ⌝ }
+// A command c that pushes a leaf and ends at `mid`, if it is a rule and a union that starts before `stop` stands there.
+fn with_union(s: &[u8], stop: usize, c: Command, l: Leaf, mid: usize) -> Joined
+    ensures { λ r. ⌜ ((at : ℕ) → readAt labelCount (now (s .entry)) at ≡ Got c mid → effect c ≡ Push l → SpeltBy labelCount (now (s .entry)) stop at r) ⌝ }
 {
+    let Leaf::Rule = l else {
+        return Joined::Other;
+    };
     if stop <= mid {
         return Joined::Other;
     }
     let r = read_next(s, mid);
-    let Read::Command(c, next) = r else {
+    let Read::Command(u, next) = r else {
         return Joined::Other;
     };
-    match c {
-        Command::Union => Joined::By(Command::Rule(g), next),
-        Command::Atom(_) => Joined::Other,
-        Command::Rule(_) => Joined::Other,
-        Command::Relabel(_, _) => Joined::Other,
-        Command::Connect(_, _, _) => Joined::Other,
-    }
+    let Command::Union = u else {
+        return Joined::Other;
+    };
+    Joined::By(c, next)
 }
 
 // What stands at an offset.
@@ -55,26 +59,26 @@ fn joined_at(s: &[u8], stop: usize, at: usize) -> Joined
     let Read::Command(c, next) = r else {
         return Joined::Other;
     };
-    match c {
-        Command::Rule(g) => with_union(s, stop, g, next),
-        Command::Relabel(_, _) => Joined::By(c, next),
-        Command::Connect(_, _, _) => Joined::By(c, next),
-        Command::Atom(_) => Joined::Other,
-        Command::Union => Joined::Other,
+    let e = effect(c);
+    match e {
+        Effect::Push(l) => with_union(s, stop, c, l, next),
+        Effect::Unite => Joined::Other,
+        Effect::Change => Joined::By(c, next),
+        Effect::Pass => Joined::Other,
     }
 }
 
-// The counts after a command; after a rule and the union behind it.
+// The counts after a command; after a leaf and the union behind it.
 fn joined_counts(n: Counts, c: Command) -> Counts
     ensures { λ r. ⌜ r ≡ joinedCounts n c ⌝ }
 {
-    let m = counted(n, c);
-    match c {
-        Command::Rule(_) => counted(m, Command::Union),
-        Command::Atom(_) => m,
-        Command::Union => m,
-        Command::Relabel(_, _) => m,
-        Command::Connect(_, _, _) => m,
+    let e = effect(c);
+    let m = counted_by(n, e);
+    match e {
+        Effect::Push(_) => counted_by(m, Effect::Unite),
+        Effect::Unite => m,
+        Effect::Change => m,
+        Effect::Pass => m,
     }
 }
 

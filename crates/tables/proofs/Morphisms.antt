@@ -1,5 +1,5 @@
--- A map between algebras of entries that carries their operations carries tables to tables: through `canon`, each operation, a command on a stack, and the
--- table of an expression. Assumes nothing.
+-- A map between algebras of entries that carries their operations carries tables to tables: through `canon`, each operation, and the table of an
+-- expression. Assumes nothing.
 use mathlib.Core.Path.{_≡_, refl, sym, ap, ap₂, _∙_}
 use mathlib.Core.Bool.{Bool, true, false, cond}
 use mathlib.Core.List.{List, [], _∷_, _++_, map}
@@ -10,43 +10,11 @@ use Rattle.lists.specs.Lists.{products}
 use Rattle.lists.specs.Sorted.{byOrder, compareNumbers, compareLists, insert, insertAll, canon, setOf}
 use Rattle.lists.proofs.Members.{products-map}
 use Rattle.expression.specs.declared.Kind.{Kind}
-use Rattle.expression.specs.declared.Command.{Command}
-use Rattle.expression.specs.declared.Command.the-variants.{Atom, Rule, Union, Relabel, Connect}
-use Rattle.semantics.specs.Expressions.{Expr, atom, rule, union, relabel, connect, Operations, fold, uniteNewest, changeNewest, act}
+use Rattle.semantics.specs.Expressions.{Expr}
 use Rattle.semantics.specs.AnswerSets.{Assumptions}
+use Rattle.semantics.proofs.Homomorphisms.{Homomorphism, fold-map}
 use Rattle.tables.specs.Algebras.{Algebra, leaf, tables, table}
 use Rattle.tables.specs.Definitions.{Pair, unitePairs, mapPair, triples, flat}
-
--- ---- the five operations
-
-pub record Homomorphism {Y Z : Type 0} (B : Operations Y) (C : Operations Z) (h : Y → Z) : Type 0 where
-  pub atomOp : (c g : ℕ) → h (B .atomOp c g) ≡ C .atomOp c g
-  pub ruleOp : (g : ℕ) → h (B .ruleOp g) ≡ C .ruleOp g
-  pub unionOp : (x y : Y) → h (B .unionOp x y) ≡ C .unionOp (h x) (h y)
-  pub relabelOp : (i j : ℕ) (x : Y) → h (B .relabelOp i j x) ≡ C .relabelOp i j (h x)
-  pub connectOp : (k : Kind) (i j : ℕ) (x : Y) → h (B .connectOp k i j x) ≡ C .connectOp k i j (h x)
-
-module _ {Y Z : Type 0} {B : Operations Y} {C : Operations Z} {h : Y → Z} (H : Homomorphism B C h) where
-  pub fold-map : (e : Expr) → h (fold B e) ≡ fold C e
-  unfolding fold
-  fold-map (atom c g) = H .atomOp c g
-  fold-map (rule g) = H .ruleOp g
-  fold-map (union a b) = H .unionOp (fold B a) (fold B b) ∙ ap₂ (C .unionOp) (fold-map a) (fold-map b)
-  fold-map (relabel i j e) = H .relabelOp i j (fold B e) ∙ ap (C .relabelOp i j) (fold-map e)
-  fold-map (connect k i j e) = H .connectOp k i j (fold B e) ∙ ap (C .connectOp k i j) (fold-map e)
-
-  -- the front of a stack changes, the rest stays
-  pub act-map : (n : ℕ) (c : Command) (ys : List Y) → map h (act B n c ys) ≡ act C n c (map h ys)
-  unfolding act uniteNewest changeNewest
-  act-map n (Atom g) ys = ap {B = List Z} (λ z. z ∷ map h ys) (H .atomOp n g)
-  act-map n (Rule g) ys = ap {B = List Z} (λ z. z ∷ map h ys) (H .ruleOp g)
-  act-map n Union [] = refl
-  act-map n Union (b ∷ []) = refl
-  act-map n Union (b ∷ a ∷ ys) = ap {B = List Z} (λ z. z ∷ map h ys) (H .unionOp a b)
-  act-map n (Relabel i j) [] = refl
-  act-map n (Relabel i j) (y ∷ ys) = ap {B = List Z} (λ z. z ∷ map h ys) (H .relabelOp i j y)
-  act-map n (Connect k i j) [] = refl
-  act-map n (Connect k i j) (y ∷ ys) = ap {B = List Z} (λ z. z ∷ map h ys) (H .connectOp k i j y)
 
 -- ---- entries
 

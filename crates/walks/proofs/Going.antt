@@ -13,12 +13,14 @@ use Rattle.expression.specs.declared.Counts.{Counts}
 use Rattle.expression.specs.declared.Read.the-variants.{Command as Got, Fault}
 use Rattle.expression.specs.Limits.{depthLimit}
 use Rattle.expression.specs.Commands.{Suits, readAt}
+use Rattle.expression.specs.Effects.{effect}
 use Rattle.expression.specs.Reading.{noCounts, newAtoms, depthAfter, counted, capped, countFault, Placed}
-use Rattle.expression.proofs.Totals.{counted-limited, capped-limited}
+use Rattle.expression.proofs.Totals.{counted-limited, capped-limited, leaves-one}
 use Rattle.expression.proofs.Checks.{Joined}
 use Rattle.expression.proofs.Remaining.{Remains, remains-start, remains-next, remains-end, Next}
 use Rattle.semantics.specs.Expressions.{Operations, act}
 use Rattle.semantics.specs.AnswerSets.{Assumptions}
+use Rattle.semantics.proofs.Effects.{act-deep}
 use Rattle.semantics.proofs.Readings.{read-suits}
 use Rattle.tables.specs.Algebras.{tables}
 use Rattle.decisions.specs.Decisions.{stopped, walked, newest, walk, commandsIn, pairsFault}
@@ -31,7 +33,7 @@ use Rattle.stacks.specs.Stacks.{Counted}
 use Rattle.stacks.proofs.Clearing.{holds-counted}
 use Rattle.operations.specs.Operations.{Meets}
 use Rattle.advances.specs.Advances.{Stands, Advanced}
-use Rattle.advances.proofs.Steps.{passes-meets, act-deep, some-after, walk-nil, walk-on, walk-stops, fault-none, fault-some}
+use Rattle.advances.proofs.Steps.{passes-meets, walk-nil, walk-on, walk-stops, fault-none, fault-some}
 use Rattle.walks.specs.Walks.{before, walkTo}
 use Rattle.walks.proofs.Before.{before-nil, before-more, before-none}
 
@@ -93,7 +95,7 @@ module _ (kind : Tables) (carry : Carry) (o : Assumptions) (w p stop : ℕ) (s :
         suits = read-suits labelCount s at c next got
 
         pub meets : Meets c d (n .depth) (n .atoms)
-        meets = passes-meets n c (subst (λ x. countFault n x ≡ 0) is-command (N .passes))
+        meets = passes-meets n c (subst (λ x. countFault n x ≡ 0) is-command (N .passes)) (g .remains .1)
 
         abbrev pub after : List (List Entry)
         after = act B (n .atoms) c stack
@@ -112,8 +114,8 @@ module _ (kind : Tables) (carry : Carry) (o : Assumptions) (w p stop : ℕ) (s :
             record {
               rest = N .rest;
               remains = rw (same, sym is-command, sym is-next) (N .after);
-              deep = rw (same, deeper) (act-deep B (n .atoms) d c stack (rw (g .deep) meets) ∙ ap (λ k. depthAfter k c) (g .deep));
-              begun = λ l. rw (same, deeper) (some-after d (n .depth) (n .atoms) c meets);
+              deep = rw (same, deeper) (act-deep B (n .atoms) c stack (rw (g .deep) (meets .0)) ∙ ap (λ k. depthAfter k c) (g .deep));
+              begun = λ l. rw (same, deeper) (leaves-one (effect c) (n .depth) (meets .0));
               leads = rw (same, atoms) (sym (walk-on B f (n .atoms) at c (before stop (N .rest)) stack none) ∙ from-here);
             }
 

@@ -9,10 +9,14 @@ use Rattle.lists.specs.Sorted.{insert, insertAll, canon}
 use Rattle.labels.specs.Labels.{labelCount}
 use Rattle.expression.specs.declared.Command.{Command}
 use Rattle.expression.specs.declared.Command.the-variants.{Atom, Rule, Union, Relabel, Connect}
+use Rattle.expression.specs.declared.Leaf.the-variants as leaf
+use Rattle.expression.specs.declared.Effect.{Effect}
+use Rattle.expression.specs.declared.Effect.the-variants.{Push, Unite, Change, Pass}
 use Rattle.expression.specs.declared.Counts.{Counts}
 use Rattle.expression.specs.declared.Read.the-variants.{Command as Got}
 use Rattle.expression.specs.Commands.{readAt}
 use Rattle.expression.specs.Limits.{depthLimit}
+use Rattle.expression.specs.Effects.{effect}
 use Rattle.expression.specs.Reading.{counted, capped}
 use Rattle.expression.proofs.Commands.{read-ends}
 use Rattle.semantics.specs.Expressions.{Operations, act, uniteNewest, changeNewest}
@@ -34,7 +38,7 @@ use Rattle.workspace.specs.Workspace.{Sound, pairsOf}
 use Rattle.operands.specs.Operands.{unitedTable}
 use Rattle.operations.proofs.Dispatch.{rule-acts, union-acts, relabel-acts, connect-acts}
 use Rattle.stretches.specs.declared.Stretch.{Stretch}
-use Rattle.stretches.specs.Stretches.{Spelt, Chain, joinedCounts, chainCounts}
+use Rattle.stretches.specs.Stretches.{SpeltAs, Spelt, Chain, joinedCounts, chainCounts}
 use Rattle.ahead.specs.Ahead.{Ahead, stretched}
 use Rattle.ahead.proofs.Keeping.{batched-sound, one-sound, kept-fault}
 use Rattle.walks.proofs.Going.{Leading, Going, lead-on}
@@ -59,12 +63,15 @@ chain-up s stop at end (c ∷ cs) h =
     let r = chain-up s stop (h .1 .0) end cs (h .1 .2) in
     let u = spelt-up c (h .1 .0) (h .1 .1) in omega arith
   where
+    as-up : (e : Effect) (c : Command) (next : ℕ) → SpeltAs labelCount s stop e at c next → at < next
+    as-up (Push leaf.Atom) c next h = absurd h
+    as-up (Push leaf.Rule) c next h = let a = read-ends labelCount s at c (h .0) (h .1) in let b = read-ends labelCount s (h .0) Union next (h .3) in omega arith
+    as-up Unite c next h = absurd h
+    as-up Change c next h = read-ends labelCount s at c next h .0
+    as-up Pass c next h = absurd h
+
     spelt-up : (c : Command) (next : ℕ) → Spelt labelCount s stop at c next → at < next
-    spelt-up (Relabel i j) next e = read-ends labelCount s at (Relabel i j) next e .0
-    spelt-up (Connect k i j) next e = read-ends labelCount s at (Connect k i j) next e .0
-    spelt-up (Rule g) next e = let a = read-ends labelCount s at (Rule g) (e .0) (e .1) in let b = read-ends labelCount s (e .0) Union next (e .3) in omega arith
-    spelt-up (Atom g) next e = absurd e
-    spelt-up Union next e = absurd e
+    spelt-up c next h = as-up (effect c) c next h
 
 module _ (kind : Tables) (carry : Carry) (o : Assumptions) (w p stop : ℕ) (s : List ℕ) (wide : 2 ≤ w) (room : 1 ≤ p) (ends : stop ≤ length s) where
   abbrev L : Counts → ℕ → Counts → List (List Entry) → Type 0
@@ -85,7 +92,7 @@ module _ (kind : Tables) (carry : Carry) (o : Assumptions) (w p stop : ℕ) (s :
 
   module _ {z : Counts} {at : ℕ} {n : Counts} {x : List Entry} {us : List (List Entry)} (g : L z at n (x ∷ us)) (l : at < stop) (h : Sound w p (pairsOf x)) (small : All (Small carry) x) where
     one : (c : Command) (next : ℕ) → Spelt labelCount s stop at c next → L z next (joinedCounts n c) (batchedTable carry (c ∷ []) x ∷ us)
-    unfolding joinedCounts changeNewest uniteNewest
+    unfolding joinedCounts counted effect changeNewest uniteNewest
     one (Relabel i j) next e = on g l (Relabel i j) next e _ (relabel-acts kind carry o (n .atoms) i j refl (x ∷ us)) (batched-sound carry w p (Relabel i j ∷ []) x h)
     one (Connect k i j) next e = on g l (Connect k i j) next e _ (connect-acts kind carry o (n .atoms) k i j refl (x ∷ us)) (batched-sound carry w p (Connect k i j ∷ []) x h)
     one (Rule r) next e =

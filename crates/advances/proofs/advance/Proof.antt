@@ -1,12 +1,14 @@
 -- `advances::advance`: the command acts, and then the counts follow.
-use mathlib.Core.Path.{_≡_, refl}
+use mathlib.Core.Path.{_≡_, refl, sym, ap, _∙_, subst}
 use mathlib.Core.List.{List}
 use Prim.Native.Nat.{ℕ}
 use lib.ListN.{length}
+use Rattle.expression.specs.declared.Effect.{Effect}
 use Rattle.semantics.specs.AnswerSets.{byMasks}
 use Rattle.tables.specs.Algebras.{tables}
 use Rattle.entries.specs.Carries.{Entry}
 use Rattle.leaves.specs.Leaves.{tableAlgebra}
+use Rattle.stacks.specs.Stacks.{Applies, tallied}
 use Rattle.operands.specs.Operands.{Loaded}
 use Rattle.advances.specs.Advances.{Stands}
 use Rattle.advances.proofs.Advancing.{counts-reach, loaded, counts-apply, advanced}
@@ -46,10 +48,13 @@ act-requires c κs =
     let s = start v in
     (s .pre .0, ((s .pre .1 .0 .0, s .pre .1 .0 .1), (s .pre .1 .0 .2, s .pre .1 .0 .3, (s .pre .1 .1 .0, s .pre .1 .1 .1, load v (s .pre .1 .1 .0) (s .pre .1 .1 .1) (standing s) (s .pre .1 .1 .3)))))
 
+effect-requires : tie.Need-effect-requires
+effect-requires c κs = search needs
+
 tally-requires : tie.Need-tally-requires
 tally-requires c κs =
-    let s = start (c .before .before .before .before .before .before .before .before .before .before .before .before .before .before .before .before .before .before) in
-    counts-apply (standing s) (s .pre .0 .4) (s .args .t) (s .pre .1 .1 .3) (s .args .c) (s .args .a) (s .pre .1 .0 .3)
+    let s = start (c .before .before .before .before .before .before .before .before .before .before .before .before .before .before .before .before .before .before .before) in
+    subst (λ (x : Effect). Applies x (s .args .t) (length (s .args .counts .now))) (sym (c .effect .ensures)) (counts-apply (standing s) (s .pre .0 .4) (s .args .t) (s .pre .1 .1 .3) (s .args .c) (s .args .a) (s .pre .1 .0 .3))
 
 same-length : tie.Need-same-length
 same-length c = search needs
@@ -72,11 +77,11 @@ same-length-6 c = search needs
 returns : tie.Need-returns
 returns c =
     let y = c .before .before in
-    let u = y .before .before .before .before .before .before .before .before .before .before .before .before .before in
+    let u = y .before .before .before .before .before .before .before .before .before .before .before .before .before .before in
     let v = u .before .before .before .before .before .before in
     let s = start v in
     let B = tables (tableAlgebra (s .args .kind) (s .args .carry)) (byMasks (s .args .assumed-true) (s .args .assumed-false)) in
-    (λ ts beyond h e. advanced h (s .pre .0 .4) (s .args .t) e (s .args .c) (s .args .a) (s .pre .1 .0 .3) B (u .act .ensures .0 ts beyond (load v ts beyond h e)) (λ l. y .tally .ensures) (λ l. absurd (omega (arith, y .before .before .if1 .taken))), u .act .ensures .1)
+    (λ ts beyond h e. advanced h (s .pre .0 .4) (s .args .t) e (s .args .c) (s .args .a) (s .pre .1 .0 .3) B (u .act .ensures .0 ts beyond (load v ts beyond h e)) (λ l. y .tally .ensures ∙ ap (λ (x : Effect). tallied x (s .args .t) (u .act .result) (s .args .counts .now)) (y .before .effect .ensures)) (λ l. absurd (omega (arith, y .before .before .before .if1 .taken))), u .act .ensures .1)
 
 same-length-7 : tie.Need-same-length-7
 same-length-7 c = search needs
@@ -111,6 +116,7 @@ advance-spec =
     count-below-requires
     count-below-requires-2
     act-requires
+    effect-requires
     tally-requires
     same-length
     same-length-2

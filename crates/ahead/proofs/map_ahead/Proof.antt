@@ -8,7 +8,7 @@ use Rattle.expression.specs.Limits.{depthLimit}
 use Rattle.batches.specs.Batches.{commandsOf}
 use Rattle.entries.specs.Carries.{Entry}
 use Rattle.maps.specs.Maps.{batchedTable}
-use Rattle.stacks.specs.Stacks.{countBelow, Applies}
+use Rattle.stacks.specs.Stacks.{countBelow}
 use Rattle.operands.specs.Operands.{Loaded}
 use Rattle.advances.specs.Advances.{Stands}
 use Rattle.advances.proofs.Advancing.{counts-reach, loaded}
@@ -44,8 +44,9 @@ map-newest-requires c κs =
     ((s .pre .0 .0, s .pre .0 .1, s .pre .0 .2, omega arith, s .pre .0 .3, s .pre .0 .4, s .pre .0 .5), ((s .pre .1 .0 .0, s .pre .1 .0 .1), (s .pre .1 .0 .2, (below v, (s .pre .1 .1 .0, s .pre .1 .1 .1, load v (s .pre .1 .1 .0) (s .pre .1 .1 .1) (standing s) (s .pre .1 .1 .3))))))
 
 tally-requires : tie.Need-tally-requires
-unfolding Applies
-tally-requires c κs = let s = start (c .before .before .before .before .before .before .before .before .before .before .before .before .before .before .before .before .before) in (s .pre .1 .0 .2, counts-reach (standing s) (omega arith) (s .args .t) (s .pre .1 .1 .3))
+tally-requires c κs =
+    let s = start (c .before .before .before .before .before .before .before .before .before .before .before .before .before .before .before .before .before) in
+    let reach = counts-reach (standing s) (omega arith) (s .args .t) (s .pre .1 .1 .3) in (s .pre .1 .0 .2, reach, reach)
 
 same-length : tie.Need-same-length
 same-length c = search needs

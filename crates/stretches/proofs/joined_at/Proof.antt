@@ -1,8 +1,8 @@
--- `stretches::joined_at`: by the command's form.
+-- `stretches::joined_at`: by the effect of the command. Assumes nothing.
 use mathlib.Core.Path.{sym, _∙_}
-use Rattle.labels.specs.Labels.{labelCount}
-use Rattle.stretches.proofs.Reading.{relabel-spelt, connect-spelt, rule-read}
 use borrow.Author.Needs.{needs}
+use Rattle.labels.specs.Labels.{labelCount}
+use Rattle.stretches.proofs.Reading.{spelt-by}
 use Rattle.stretches.proofs.joined_at.Statement.{statement}
 use Rattle.stretches.proofs.joined_at.Tie as tie
 
@@ -18,8 +18,11 @@ enum-told c = search needs
 returns : tie.Need-returns
 returns c = search needs
 
-enum-known-c : tie.Need-enum-known-c
-enum-known-c c = search needs
+effect-requires : tie.Need-effect-requires
+effect-requires c κs = search needs
+
+enum-known-e : tie.Need-enum-known-e
+enum-known-e c = search needs
 
 with-union-requires : tie.Need-with-union-requires
 with-union-requires c κs = search needs
@@ -33,29 +36,23 @@ enum-told-3 c = search needs
 enum-told-4 : tie.Need-enum-told-4
 enum-told-4 c = search needs
 
-enum-told-5 : tie.Need-enum-told-5
-enum-told-5 c = search needs
-
 returns-2 : tie.Need-returns-2
 returns-2 c =
-    let r = c .before .before .before .before .before in
-    c .with-union .ensures _ (rule-read labelCount _ 0 _ _ _ (sym (r .before .before .read-next .ensures) ∙ r .r .given .1) (c .before .before .c .given .1))
+    let b = c .before .before .before .before in
+    let r = b .before .before in
+    c .with-union .ensures _ (sym (r .before .before .read-next .ensures) ∙ r .r .given .1) (sym (b .effect .ensures) ∙ c .before .before .e .given .1)
 
 returns-3 : tie.Need-returns-3
-returns-3 c =
-    let r = c .before .before .before in
-    relabel-spelt labelCount _ _ _ _ _ (sym (r .before .before .read-next .ensures) ∙ r .r .given .1) (c .enum-told2 .given .1)
+returns-3 c = search needs
 
 returns-4 : tie.Need-returns-4
 returns-4 c =
-    let r = c .before .before .before in
-    connect-spelt labelCount _ _ _ _ _ (sym (r .before .before .read-next .ensures) ∙ r .r .given .1) (c .enum-told3 .given .1)
+    let b = c .before .before in
+    let r = b .before .before in
+    spelt-by labelCount _ _ _ _ _ (sym (b .effect .ensures) ∙ c .enum-told3 .given .1) (sym (r .before .before .read-next .ensures) ∙ r .r .given .1)
 
 returns-5 : tie.Need-returns-5
 returns-5 c = search needs
-
-returns-6 : tie.Need-returns-6
-returns-6 c = search needs
 
 pub joined-at-spec : {M : Type 1} → statement M
 joined-at-spec =
@@ -65,14 +62,13 @@ joined-at-spec =
     enum-known-r
     enum-told
     returns
-    enum-known-c
+    effect-requires
+    enum-known-e
     with-union-requires
     enum-told-2
     enum-told-3
     enum-told-4
-    enum-told-5
     returns-2
     returns-3
     returns-4
-    returns-5
-    returns-6)
+    returns-5)

@@ -1,17 +1,25 @@
--- `stretches::joined_counts`: by the command's form.
-use Rattle.stretches.proofs.Reading.{rule-counts, atom-counts, union-counts, relabel-counts, connect-counts}
+-- `stretches::joined_counts`: by the effect of the command. Assumes nothing.
+use mathlib.Core.Path.{sym, ap, _∙_}
 use borrow.Author.Needs.{needs}
+use Rattle.expression.specs.declared.Counts.{Counts}
+use Rattle.expression.specs.declared.Effect.{Effect}
+use Rattle.expression.specs.declared.Effect.the-variants.{Unite}
+use Rattle.expression.specs.Reading.{countedBy, capped}
+use Rattle.stretches.proofs.Reading.{counts-by}
 use Rattle.stretches.proofs.joined_counts.Statement.{statement}
 use Rattle.stretches.proofs.joined_counts.Tie as tie
 
-counted-requires : tie.Need-counted-requires
-counted-requires c κs = search needs
+effect-requires : tie.Need-effect-requires
+effect-requires c κs = search needs
+
+counted-by-requires : tie.Need-counted-by-requires
+counted-by-requires c κs = search needs
 
 enum-told : tie.Need-enum-told
 enum-told c = search needs
 
-counted-requires-2 : tie.Need-counted-requires-2
-counted-requires-2 c κs = search needs
+counted-by-requires-2 : tie.Need-counted-by-requires-2
+counted-by-requires-2 c κs = search needs
 
 enum-told-2 : tie.Need-enum-told-2
 enum-told-2 c = search needs
@@ -22,37 +30,33 @@ enum-told-3 c = search needs
 enum-told-4 : tie.Need-enum-told-4
 enum-told-4 c = search needs
 
-enum-told-5 : tie.Need-enum-told-5
-enum-told-5 c = search needs
-
 returns : tie.Need-returns
-returns c = rule-counts _ _ _ (c .before .before .before .counted .ensures) (c .before .enum-told .given .1) (c .counted2 .ensures)
+returns c =
+    let told = c .before .enum-told .given .1 in
+    let b = c .before .before .before in
+    counts-by _ _ (sym (b .before .effect .ensures) ∙ told) (c .counted-by2 .ensures ∙ ap (λ (m : Counts). capped (countedBy m Unite)) (b .counted-by .ensures ∙ ap (λ (x : Effect). capped (countedBy (b .before .before .args .n) x)) told))
 
 returns-2 : tie.Need-returns-2
-returns-2 c = atom-counts _ _ _ (c .before .before .counted .ensures) (c .enum-told2 .given .1)
+returns-2 c = let b = c .before .before in counts-by _ _ (sym (b .before .effect .ensures) ∙ c .enum-told2 .given .1) (b .counted-by .ensures ∙ ap (λ (x : Effect). capped (countedBy (b .before .before .args .n) x)) (c .enum-told2 .given .1))
 
 returns-3 : tie.Need-returns-3
-returns-3 c = union-counts _ _ _ (c .before .before .counted .ensures) (c .enum-told3 .given .1)
+returns-3 c = let b = c .before .before in counts-by _ _ (sym (b .before .effect .ensures) ∙ c .enum-told3 .given .1) (b .counted-by .ensures ∙ ap (λ (x : Effect). capped (countedBy (b .before .before .args .n) x)) (c .enum-told3 .given .1))
 
 returns-4 : tie.Need-returns-4
-returns-4 c = relabel-counts _ _ _ (c .before .before .counted .ensures) (c .enum-told4 .given .1)
-
-returns-5 : tie.Need-returns-5
-returns-5 c = connect-counts _ _ _ (c .before .before .counted .ensures) (c .enum-told5 .given .1)
+returns-4 c = let b = c .before .before in counts-by _ _ (sym (b .before .effect .ensures) ∙ c .enum-told4 .given .1) (b .counted-by .ensures ∙ ap (λ (x : Effect). capped (countedBy (b .before .before .args .n) x)) (c .enum-told4 .given .1))
 
 pub joined-counts-spec : {M : Type 1} → statement M
 joined-counts-spec =
     tie.close
     (tie.spec
-    counted-requires
+    effect-requires
+    counted-by-requires
     enum-told
-    counted-requires-2
+    counted-by-requires-2
     enum-told-2
     enum-told-3
     enum-told-4
-    enum-told-5
     returns
     returns-2
     returns-3
-    returns-4
-    returns-5)
+    returns-4)
