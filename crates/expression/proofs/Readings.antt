@@ -66,19 +66,21 @@ whole-taken K k s at n cs z within h = reads (readAt K s at) refl
     reads (Fault f) e = let y = from-fault K k s at n within f e in let x : _≡_ {A = ℕ} 0 1 = cc in absurd (omega arith)
     reads (Got c next) e = counts c next e (countFault n c) refl
 
-from-limited : (K k : ℕ) (s : List ℕ) (at : ℕ) (n : Counts) (cs : List Placed) (z : Counts) → Limited n → readFrom K k s at n ≡ whole cs z → Limited z
+-- what every command that passes 9 to 11 keeps of the counts holds at the end
+pub from-keeps : (P : Counts → Type 0) → ((n : Counts) (c : Command) → countFault n c ≡ 0 → P n → P (counted n c))
+    → (K k : ℕ) (s : List ℕ) (at : ℕ) (n : Counts) (cs : List Placed) (z : Counts) → P n → readFrom K k s at n ≡ whole cs z → P z
 unfolding readFrom
-from-limited K zero s at n cs z l h = let e : n ≡ z = cc in subst Limited e l
-from-limited K (suc k) s at n cs z l h = step (ltb at (length s)) refl (λ next c. from-limited K k s next (counted n c))
+from-keeps P keeps K zero s at n cs z l h = let e : n ≡ z = cc in subst P e l
+from-keeps P keeps K (suc k) s at n cs z l h = step (ltb at (length s)) refl (λ next c. from-keeps P keeps K k s next (counted n c))
   where
     step : (b : Bool) → ltb at (length s) ≡ b
-        → ((next : ℕ) (c : Command) (ds : List Placed) (y : Counts) → Limited (counted n c) → readFrom K k s next (counted n c) ≡ whole ds y → Limited y)
-        → Limited z
-    step false e rest = let f = from-end K (suc k) s at n (ltb-false at (length s) e) in let g : n ≡ z = cc in subst Limited g l
+        → ((next : ℕ) (c : Command) (ds : List Placed) (y : Counts) → P (counted n c) → readFrom K k s next (counted n c) ≡ whole ds y → P y)
+        → P z
+    step false e rest = let f = from-end K (suc k) s at n (ltb-false at (length s) e) in let g : n ≡ z = cc in subst P g l
     step true e rest =
         let t = whole-taken K k s at n cs z (ltb-true at (length s) e) h in
-        rest (t .next) (t .command) (t .rest) z (counted-limited n (t .command) (t .passes) l) (t .after)
+        rest (t .next) (t .command) (t .rest) z (keeps n (t .command) (t .passes) l) (t .after)
 
 pub reading-limited : (K : ℕ) (s : List ℕ) (cs : List Placed) (z : Counts) → reading K s ≡ whole cs z → Limited z
 unfolding reading
-reading-limited K s cs z h = from-limited K (length s) s 0 noCounts cs z none-limited h
+reading-limited K s cs z h = from-keeps Limited counted-limited K (length s) s 0 noCounts cs z none-limited h
