@@ -47,14 +47,14 @@ module _ {carry : Carry} {d w p : ℕ} {ts : List (List Entry)} {beyond ws vals 
       older = sym (em ∙ ap (countBelow t 2) (h .tallies) ∙ count-second depthLimit t ts e);
     }
 
-    module _ (c : Command) (a : ℕ) (m : Meets c d t a) where
+    module _ (c : Command) (m : Meets c d t) where
       applies : Applies (effect c) t depthLimit
       applies = (m .0, omega (arith, e, deep), omega (arith, m .1))
 
       pub counts-apply : Applies (effect c) t (length counts)
       counts-apply = rw eight applies
 
-      module _ (B : Operations (List Entry)) {r : ℕ} {ws' vals' counts' : List ℕ} (g : Acted carry d w p (act B a c ts) beyond r ws ws' vals') where
+      module _ (B : Operations (List Entry)) (a : ℕ) {r : ℕ} {ws' vals' counts' : List ℕ} (g : Acted carry d w p (act B a c ts) beyond r ws ws' vals') where
         pub advanced : (r ≤ p → counts' ≡ tallied (effect c) t r counts) → (p < r → counts' ≡ counts) → Advanced carry d w p (act B a c ts) beyond r ws counts ws' vals' counts'
         advanced told same = record {
           most = g .most;

@@ -18,9 +18,9 @@ use Rattle.workspace.specs.Workspace.{faultOf}
 use Rattle.operations.specs.Operations.{Meets}
 
 -- a command that passes 9 to 11 meets what it needs
-pub passes-meets : (n : Counts) (c : Command) → countFault n c ≡ 0 → Limited n → Meets c (depthLimit + 1) (n .depth) (n .atoms)
+pub passes-meets : (n : Counts) (c : Command) → countFault n c ≡ 0 → Limited n → Meets c (depthLimit + 1) (n .depth)
 unfolding counted
-passes-meets n c f l = let k = counted-limited n c f l in (passes-needs n c f, omega (arith, k .depth), k .atoms)
+passes-meets n c f l = let k = counted-limited n c f l in (passes-needs n c f, omega (arith, k .depth))
 
 -- ---- the walk
 

@@ -5,6 +5,7 @@ use expression::Command;
 use expression::limits::DEPTH_LIMIT;
 use expression::refusals::PLANS_FULL;
 use expression::refusals::SUBSETS_FULL;
+use leaves::Atom;
 use leaves::Tables;
 ghost use mathlib.Core.Path.{_≡_};
 ghost use mathlib.Core.List.{List};
@@ -14,10 +15,11 @@ ghost use Rattle.labels.specs.Labels.{labelCount};
 ghost use Rattle.expression.specs.Commands.{Suits};
 ghost use Rattle.expression.specs.Limits.{depthLimit};
 ghost use Rattle.semantics.specs.Expressions.{act};
-ghost use Rattle.semantics.specs.AnswerSets.{byMasks};
+ghost use Rattle.semantics.specs.AnswerSets.{Assumptions};
 ghost use Rattle.tables.specs.Algebras.{tables};
+ghost use Rattle.entries.specs.declared.Carry.the-variants.{Nothing};
 ghost use Rattle.entries.specs.Carries.{Entry, Beside, Kept};
-ghost use Rattle.leaves.specs.Leaves.{tableAlgebra, Wide};
+ghost use Rattle.leaves.specs.Leaves.{tableAlgebra, atomAt, Resolved, Wide};
 ghost use Rattle.workspace.specs.Workspace.{faultOf};
 ghost use Rattle.operations.specs.Operations.{Meets};
 ghost use Rattle.advances.specs.Advances.{Stands, Advanced};
@@ -37,7 +39,7 @@ pub fn fault_of(p: usize, r: usize) -> u64
     PLANS_FULL
 }
 
-// The command on t tables in d areas, and their counts; a is the number of the next atom. The answer is as operations::act's.
+// The command on t tables in d areas, and their counts; `atom` is the next atom. The answer is as operations::act's.
 pub fn advance(
     ws: &mut [u32],
     row: &mut [u32],
@@ -52,14 +54,12 @@ pub fn advance(
     p: usize,
     t: usize,
     c: Command,
-    a: u64,
-    assumed_true: u64,
-    assumed_false: u64,
+    atom: Atom,
 ) -> usize
     requires { ⌜ Wide kind w × (w ≤ 4096) × (1 ≤ p) × (p ≤ 1024) × (d ≤ depthLimit + 1) × (length (now row) ≡ w) × (p ≤ length (now index)) ⌝ }
-    requires { ⌜ Kept carry p 0 (now made) × Beside carry ((d - 1) * p) (now vals) × Suits labelCount c × Meets c d t a ⌝ }
+    requires { ⌜ Kept carry p 0 (now made) × Beside carry ((d - 1) * p) (now vals) × Suits labelCount c × Meets c d t × Resolved carry atom ⌝ }
     requires { ⌜ ((ts : List (List Entry)) × (beyond : List ℕ) × Stands carry d w p ts beyond (now ws) (now vals) (now counts) × (length ts ≡ t)) ⌝ }
-    ensures { λ r. ⌜ ((ts : List (List Entry)) (beyond : List ℕ) → Stands carry d w p ts beyond (now (ws .entry)) (now (vals .entry)) (now (counts .entry)) → length ts ≡ t → Advanced carry d w p (act (tables (tableAlgebra kind carry) (byMasks «assumed_true» «assumed_false»)) a c ts) beyond r (now (ws .entry)) (now (counts .entry)) (now (ws .exit)) (now (vals .exit)) (now (counts .exit))) ⌝ }
+    ensures { λ r. ⌜ ((o : Assumptions) (a : ℕ) → atom ≡ atomAt carry o a → (ts : List (List Entry)) (beyond : List ℕ) → Stands carry d w p ts beyond (now (ws .entry)) (now (vals .entry)) (now (counts .entry)) → length ts ≡ t → Advanced carry d w p (act (tables (tableAlgebra kind carry) o) a c ts) beyond r (now (ws .entry)) (now (counts .entry)) (now (ws .exit)) (now (vals .exit)) (now (counts .exit))) ⌝ }
     ensures { λ r. ⌜ (r ≤ p → Kept carry p 0 (now (made .exit))) ⌝ }
 {
     let n = stacks::count_below(&counts[..], t, 1);
@@ -79,9 +79,7 @@ pub fn advance(
         n,
         m,
         c,
-        a,
-        assumed_true,
-        assumed_false,
+        atom,
     );
     if r <= p {
         stacks::tally(counts, effect(c), t, r as u64);
@@ -101,13 +99,11 @@ fn advance_in(
     p: usize,
     t: usize,
     c: Command,
-    a: u64,
-    assumed_true: u64,
-    assumed_false: u64,
+    atom: Atom,
 ) -> usize
     requires { ⌜ (3 ≤ w) × (w ≤ 1026) × (1 ≤ p) × (p ≤ 1024) × (w ≤ length (now row)) × (p ≤ length (now index)) ⌝ }
-    requires { ⌜ Suits labelCount c × Meets c (depthLimit + 1) t a × SomeStand w p t (now ws) (now counts) ⌝ }
-    ensures { λ r. ⌜ Advances w p t c a (byMasks «assumed_true» «assumed_false») r (now (ws .entry)) (now (counts .entry)) (now (ws .exit)) (now (counts .exit)) ⌝ }
+    requires { ⌜ Suits labelCount c × Meets c (depthLimit + 1) t × Resolved Nothing atom × SomeStand w p t (now ws) (now counts) ⌝ }
+    ensures { λ r. ⌜ ((o : Assumptions) (a : ℕ) → atom ≡ atomAt Nothing o a → Advances w p t c a o r (now (ws .entry)) (now (counts .entry)) (now (ws .exit)) (now (counts .exit))) ⌝ }
 {
     advance(
         ws,
@@ -123,9 +119,7 @@ fn advance_in(
         p,
         t,
         c,
-        a,
-        assumed_true,
-        assumed_false,
+        atom,
     )
 }
 
@@ -137,13 +131,11 @@ pub fn advance_here(
     p: usize,
     t: usize,
     c: Command,
-    a: u64,
-    assumed_true: u64,
-    assumed_false: u64,
+    atom: Atom,
 ) -> usize
     requires { ⌜ (3 ≤ w) × (w ≤ 1026) × (1 ≤ p) × (p ≤ 1024) ⌝ }
-    requires { ⌜ Suits labelCount c × Meets c (depthLimit + 1) t a × SomeStand w p t (now ws) (now counts) ⌝ }
-    ensures { λ r. ⌜ Advances w p t c a (byMasks «assumed_true» «assumed_false») r (now (ws .entry)) (now (counts .entry)) (now (ws .exit)) (now (counts .exit)) ⌝ }
+    requires { ⌜ Suits labelCount c × Meets c (depthLimit + 1) t × Resolved Nothing atom × SomeStand w p t (now ws) (now counts) ⌝ }
+    ensures { λ r. ⌜ ((o : Assumptions) (a : ℕ) → atom ≡ atomAt Nothing o a → Advances w p t c a o r (now (ws .entry)) (now (counts .entry)) (now (ws .exit)) (now (counts .exit))) ⌝ }
 {
     let mut row = [0u32; 1026];
     let mut index = [0u32; 1024];
@@ -160,8 +152,6 @@ pub fn advance_here(
         p,
         t,
         c,
-        a,
-        assumed_true,
-        assumed_false,
+        atom,
     )
 }

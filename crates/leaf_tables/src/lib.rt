@@ -1,8 +1,8 @@
 // The tables of the leaves of an expression: of an atom under assumptions, and of a rule.
 use entries::Carry;
+use leaves::Atom;
+use leaves::NO_VALUE;
 use leaves::Tables;
-use leaves::has_atom;
-use leaves::present_value;
 use leaves::write_absent;
 use leaves::write_present;
 use leaves::write_unmet;
@@ -13,20 +13,14 @@ ghost use mathlib.Core.List.{[], _∷_};
 ghost use Prim.Native.Nat.{_+_, _*_, _≤_, _<_};
 ghost use lib.ListN.{length};
 ghost use Rattle.labels.specs.Labels.{labelCount};
-ghost use Rattle.expression.specs.Limits.{atomLimit};
-ghost use Rattle.semantics.specs.AnswerSets.{byMasks};
-ghost use Rattle.tables.specs.Algebras.{leaf};
 ghost use Rattle.candidates.specs.Candidates.{Readable};
 ghost use Rattle.rows.specs.Parts.{part, zeros};
 ghost use Rattle.entries.specs.Carries.{Keeps, Kept};
 ghost use Rattle.making.specs.Making.{Next, Puts, Finished, entryOf};
-ghost use Rattle.leaves.specs.Leaves.{tableAlgebra, Wide};
+ghost use Rattle.leaves.specs.Leaves.{tableAlgebra, leafEntries, KeepsBoth, Wide};
 
-// The value of an atom that is out, and of a rule.
-const NO_VALUE: Value = Value { high: 0, low: 0 };
-
-// The pair in `row`, with the value v, put into the table that is being made at word `to`, unless it is excluded. The answer is as making::put_entry's.
-fn put_unless(
+// The pair in `row`, with the value v, put into the table that is being made at word `to`, where it is allowed. The answer is as making::put_entry's.
+fn put_if(
     ws: &mut [u32],
     row: &[u32],
     index: &mut [u32],
@@ -37,21 +31,21 @@ fn put_unless(
     to: usize,
     m: usize,
     v: Value,
-    excluded: bool,
+    is_allowed: bool,
 ) -> usize
     requires { ⌜ (2 ≤ w) × (p ≤ 1024) × (to + p * w ≤ length (now ws)) ⌝ }
     requires { ⌜ Readable (now row) × (length (now row) ≡ w) × Keeps carry v ⌝ }
-    requires { ⌜ Next carry w p to m (cond excluded [] (entryOf (now row) v ∷ [])) (now ws) (now index) (now vals) ⌝ }
-    ensures { λ r. ⌜ Puts carry w p to m (cond excluded [] (entryOf (now (row .entry)) v ∷ [])) r (now (ws .entry)) (now (index .entry)) (now (vals .entry)) (now (ws .exit)) (now (index .exit)) (now (vals .exit)) ⌝ }
+    requires { ⌜ Next carry w p to m (cond «is_allowed» (entryOf (now row) v ∷ []) []) (now ws) (now index) (now vals) ⌝ }
+    ensures { λ r. ⌜ Puts carry w p to m (cond «is_allowed» (entryOf (now (row .entry)) v ∷ []) []) r (now (ws .entry)) (now (index .entry)) (now (vals .entry)) (now (ws .exit)) (now (index .exit)) (now (vals .exit)) ⌝ }
 {
-    if excluded {
-        return m;
+    if is_allowed {
+        return making::put_entry(ws, row, index, vals, carry, w, p, to, m, v);
     }
-    making::put_entry(ws, row, index, vals, carry, w, p, to, m, v)
+    m
 }
 
-// The entries of the atom c of label g put into a new table at word `to`: the present one unless the atom is assumed false, the absent one unless it is
-// assumed true. The answer is as making::put_entry's.
+// The entries of an atom of label g put into a new table at word `to`: the present one where it may be in, the absent one where it may be out. The
+// answer is as making::put_entry's.
 fn put_leaf(
     ws: &mut [u32],
     row: &mut [u32],
@@ -62,26 +56,45 @@ fn put_leaf(
     w: usize,
     p: usize,
     to: usize,
-    c: u64,
+    atom: Atom,
     g: u32,
-    assumed_true: u64,
-    assumed_false: u64,
 ) -> usize
-    requires { ⌜ Wide tables w × (p ≤ 1024) × (length (now row) ≡ w) × (g < labelCount) × (c < atomLimit) × (to + p * w ≤ length (now ws)) ⌝ }
-    requires { ⌜ Next carry w p to 0 (leaf (tableAlgebra tables carry) (byMasks «assumed_true» «assumed_false») c g) (now ws) (now index) (now vals) ⌝ }
-    ensures { λ r. ⌜ Puts carry w p to 0 (leaf (tableAlgebra tables carry) (byMasks «assumed_true» «assumed_false») c g) r (now (ws .entry)) (now (index .entry)) (now (vals .entry)) (now (ws .exit)) (now (index .exit)) (now (vals .exit)) ⌝ }
+    requires { ⌜ Wide tables w × (p ≤ 1024) × (length (now row) ≡ w) × (g < labelCount) × KeepsBoth carry atom × (to + p * w ≤ length (now ws)) ⌝ }
+    requires { ⌜ Next carry w p to 0 (leafEntries tables atom g) (now ws) (now index) (now vals) ⌝ }
+    ensures { λ r. ⌜ Puts carry w p to 0 (leafEntries tables atom g) r (now (ws .entry)) (now (index .entry)) (now (vals .entry)) (now (ws .exit)) (now (index .exit)) (now (vals .exit)) ⌝ }
 {
     write_present(row, tables, g);
-    let v = present_value(carry, c);
-    let is_false = has_atom(c, assumed_false);
-    let m = put_unless(ws, row, index, vals, carry, w, p, to, 0, v, is_false);
+    let m = put_if(
+        ws,
+        row,
+        index,
+        vals,
+        carry,
+        w,
+        p,
+        to,
+        0,
+        atom.value_in,
+        atom.may_be_in,
+    );
     write_absent(row, g);
-    let is_true = has_atom(c, assumed_true);
-    put_unless(ws, row, index, vals, carry, w, p, to, m, NO_VALUE, is_true)
+    put_if(
+        ws,
+        row,
+        index,
+        vals,
+        carry,
+        w,
+        p,
+        to,
+        m,
+        atom.value_out,
+        atom.may_be_out,
+    )
 }
 
-// The table of the atom c of label g under assumptions, put at word `at`, where a table of no rows is; made in the words from `to` on. The answer is how
-// many rows it has; p + 1 where there are more than p, and nothing changes then.
+// The table of an atom of label g, put at word `at`, where a table of no rows is; made in the words from `to` on. The answer is how many rows it has;
+// p + 1 where there are more than p, and nothing changes then.
 pub fn atom_table(
     ws: &mut [u32],
     row: &mut [u32],
@@ -93,32 +106,16 @@ pub fn atom_table(
     p: usize,
     at: usize,
     to: usize,
-    c: u64,
+    atom: Atom,
     g: u32,
-    assumed_true: u64,
-    assumed_false: u64,
 ) -> usize
-    requires { ⌜ Wide tables w × (p ≤ 1024) × (length (now row) ≡ w) × (g < labelCount) × (c < atomLimit) ⌝ }
+    requires { ⌜ Wide tables w × (p ≤ 1024) × (length (now row) ≡ w) × (g < labelCount) × KeepsBoth carry atom ⌝ }
     requires { ⌜ (at + p * w ≤ to) × (to + p * w ≤ length (now ws)) ⌝ }
     requires { ⌜ (part at (p * w) (now ws) ≡ zeros (p * w)) × (part to (p * w) (now ws) ≡ zeros (p * w)) × (p ≤ length (now index)) × Kept carry p 0 (now vals) ⌝ }
-    ensures { λ r. ⌜ Finished carry w p at (leaf (tableAlgebra tables carry) (byMasks «assumed_true» «assumed_false») c g) r (now (ws .entry)) (now (ws .entry)) (now (ws .exit)) (now (vals .exit)) ⌝ }
+    ensures { λ r. ⌜ Finished carry w p at (leafEntries tables atom g) r (now (ws .entry)) (now (ws .entry)) (now (ws .exit)) (now (vals .exit)) ⌝ }
     ensures { λ r. ⌜ r ≤ p + 1 ⌝ }
 {
-    let r = put_leaf(
-        ws,
-        row,
-        index,
-        vals,
-        tables,
-        carry,
-        w,
-        p,
-        to,
-        c,
-        g,
-        assumed_true,
-        assumed_false,
-    );
+    let r = put_leaf(ws, row, index, vals, tables, carry, w, p, to, atom, g);
     making::settle(ws, row, index, w, p, r, 0, at, to);
     r
 }

@@ -1,4 +1,4 @@
-// The rows and values of the leaves of an expression: of an atom that is in or out, and of a rule.
+// The leaves of an expression: the next atom, resolved under assumptions, and the rows of an atom that is in or out, and of a rule.
 use entries::Carry;
 use expression::limits::ATOM_LIMIT;
 use values::Value;
@@ -9,16 +9,29 @@ ghost use lib.ListN.{length};
 ghost use Rattle.labels.specs.Labels.{labelCount};
 ghost use Rattle.labels.specs.Sets.{has};
 ghost use Rattle.expression.specs.Limits.{atomLimit};
+ghost use Rattle.semantics.specs.AnswerSets.{byMasks};
 ghost use Rattle.tables.specs.Triples.{markF, markU};
+ghost use Rattle.values.specs.First.{firstWeight};
 ghost use Rattle.candidates.specs.Candidates.{pairOf, Readable};
 ghost use Rattle.entries.specs.Carries.{carriedBy};
-ghost use Rattle.leaves.specs.Leaves.{algebraOf, Wide};
+ghost use Rattle.leaves.specs.Leaves.{algebraOf, atomAt, Wide};
 
 // Which tables are made: Definition 5's, kept as pairs without subsets, or Definition 8's.
 pub enum Tables {
     Plain,
     Pairs,
 }
+
+// The next atom, resolved: whether it may be in and may be out under the assumptions, and its value in and out. Its label stands in the command.
+pub struct Atom {
+    pub may_be_in: bool,
+    pub may_be_out: bool,
+    pub value_in: Value,
+    pub value_out: Value,
+}
+
+// The value of an atom that is out, of a rule, and of every atom where nothing is carried.
+pub const NO_VALUE: Value = Value { high: 0, low: 0 };
 
 // labels::LABELS at the width of a word.
 const LABELS: u32 = labels::LABELS as u32;
@@ -32,24 +45,35 @@ fn mark(m: u32) -> u32
 }
 
 // Whether the atom c is in the mask.
-pub fn has_atom(c: u64, mask: u64) -> bool
-    requires { ⌜ c < atomLimit ⌝ }
+fn has_atom(c: u64, mask: u64) -> bool
+    requires { ⌜ c ≤ atomLimit ⌝ }
     ensures { λ r. ⌜ r ≡ has c mask ⌝ }
 {
     (mask >> c) % 2 == 1
 }
 
+// The weight of the atom c in the first interpretation's value. No atom has the number ATOM_LIMIT, but a walk resolves the next one before every command.
+fn first_weight(c: u64) -> u64
+    requires { ⌜ c ≤ atomLimit ⌝ }
+    ensures { λ r. ⌜ r ≡ firstWeight c ⌝ }
+{
+    if c == ATOM_LIMIT {
+        return 1;
+    }
+    1 << (ATOM_LIMIT - (c + 1))
+}
+
 // The value of the atom c where it is in.
-pub fn present_value(carry: Carry, c: u64) -> Value
-    requires { ⌜ c < atomLimit ⌝ }
+fn present_value(carry: Carry, c: u64) -> Value
+    requires { ⌜ c ≤ atomLimit ⌝ }
     ensures { λ r. ⌜ r ≡ carriedBy carry .present c ⌝ }
 {
     match carry {
-        Carry::Nothing => Value { high: 0, low: 0 },
-        Carry::First => {
-            let low = 1 << (ATOM_LIMIT - (c + 1));
-            Value { high: 0, low }
-        }
+        Carry::Nothing => NO_VALUE,
+        Carry::First => Value {
+            high: 0,
+            low: first_weight(c),
+        },
         Carry::Consequences => {
             let mask = 1 << c;
             Value {
@@ -57,6 +81,20 @@ pub fn present_value(carry: Carry, c: u64) -> Value
                 low: mask,
             }
         }
+    }
+}
+
+// The atom c under assumptions.
+pub fn atom_at(carry: Carry, c: u64, assumed_true: u64, assumed_false: u64) -> Atom
+    requires { ⌜ c ≤ atomLimit ⌝ }
+    ensures { λ r. ⌜ r ≡ atomAt carry (byMasks «assumed_true» «assumed_false») c ⌝ }
+{
+    let value_in = present_value(carry, c);
+    Atom {
+        may_be_in: !has_atom(c, assumed_false),
+        may_be_out: !has_atom(c, assumed_true),
+        value_in,
+        value_out: NO_VALUE,
     }
 }
 

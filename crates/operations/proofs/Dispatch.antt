@@ -2,26 +2,25 @@
 use mathlib.Core.Path.{_≡_, refl, ap, subst}
 use mathlib.Core.List.{List, [], _∷_}
 use Prim.Native.Nat.{ℕ, _+_, _≤_, _<_}
-use native.Mathlib.Omega.{arith}
 use Rattle.labels.specs.Labels.{labelCount}
 use Rattle.expression.specs.declared.Command.{Command}
 use Rattle.expression.specs.declared.Command.the-variants.{Atom, Rule, Union, Relabel, Connect}
 use Rattle.expression.specs.declared.Kind.{Kind}
 use Rattle.expression.specs.Commands.{Suits}
-use Rattle.expression.specs.Limits.{atomLimit}
 use Rattle.expression.specs.Effects.{effect}
 use Rattle.semantics.specs.Expressions.{act, uniteNewest, changeNewest}
 use Rattle.semantics.specs.AnswerSets.{Assumptions}
-use Rattle.tables.specs.Algebras.{leaf, tables}
+use Rattle.tables.specs.Algebras.{tables}
 use Rattle.tables.specs.Definitions.{pairs, flat, mapPair}
 use Rattle.batches.specs.Batches.{Joins, stepTriple, step, steps, cleaned, batchPair}
 use Rattle.values.specs.Values.{valued}
 use Rattle.entries.specs.declared.Carry.{Carry}
 use Rattle.entries.specs.Carries.{Entry, entryAlgebra}
 use Rattle.making.specs.Making.{tableOfAll}
+use Rattle.leaves.specs.declared.Atom.{Atom as Leaf}
 use Rattle.leaves.specs.declared.Tables.{Tables}
 use Rattle.leaves.specs.declared.Tables.the-variants.{Plain, Pairs}
-use Rattle.leaves.specs.Leaves.{algebraOf, tableAlgebra}
+use Rattle.leaves.specs.Leaves.{algebraOf, tableAlgebra, atomAt, leafEntries}
 use Rattle.leaf_tables.proofs.Leaves.{atom-operation, rule-operation}
 use Rattle.workspace.specs.Workspace.{Acted}
 use Rattle.operands.specs.Operands.{Acts, unitedTable}
@@ -36,9 +35,9 @@ module _ (kind : Tables) (carry : Carry) (o : Assumptions) (a : ℕ) where
   abbrev act-on : Command → List (List Entry) → List (List Entry)
   act-on c ts = act (tables (tableAlgebra kind carry) o) a c ts
 
-  pub atom-acts : (g : ℕ) {c : Command} → c ≡ Atom g → (ts : List (List Entry)) → pushed (tableOfAll carry (leaf (tableAlgebra kind carry) o a g)) ts ≡ act-on c ts
+  pub atom-acts : {x : Leaf} → x ≡ atomAt carry o a → (g : ℕ) {c : Command} → c ≡ Atom g → (ts : List (List Entry)) → pushed (tableOfAll carry (leafEntries kind x g)) ts ≡ act-on c ts
   unfolding act
-  atom-acts g e ts = rw e (ap {B = List (List Entry)} (λ t. t ∷ ts) (atom-operation kind carry o a g))
+  atom-acts h g e ts = rw (e, h) (ap {B = List (List Entry)} (λ t. t ∷ ts) (atom-operation kind carry o a g))
 
   pub rule-acts : (g : ℕ) {c : Command} → c ≡ Rule g → (ts : List (List Entry)) → pushed (tableOfAll carry (tableAlgebra kind carry .unmet g ∷ [])) ts ≡ act-on c ts
   unfolding act
@@ -86,24 +85,24 @@ module _ (kind : Tables) (carry : Carry) (o : Assumptions) (a : ℕ) where
 
 -- ---- what each command meets
 
-module _ {c : Command} (d t a : ℕ) where
-  pub atom-meets : {g : ℕ} → c ≡ Atom g → Suits labelCount c → Meets c d t a → (g < labelCount) × (t + 1 < d) × (a < atomLimit)
+module _ {c : Command} (d t : ℕ) where
+  pub atom-meets : {g : ℕ} → c ≡ Atom g → Suits labelCount c → Meets c d t → (g < labelCount) × (t + 1 < d)
   unfolding Suits effect
-  atom-meets e s m = let s' = rw e at s in let m' = rw e at m in (s', m' .1, omega (arith, m' .2))
+  atom-meets e s m = let s' = rw e at s in let m' = rw e at m in (s', m' .1)
 
-  pub rule-meets : {g : ℕ} → c ≡ Rule g → Suits labelCount c → Meets c d t a → (g < labelCount) × (t + 1 < d)
+  pub rule-meets : {g : ℕ} → c ≡ Rule g → Suits labelCount c → Meets c d t → (g < labelCount) × (t + 1 < d)
   unfolding Suits effect
   rule-meets e s m = let s' = rw e at s in let m' = rw e at m in (s', m' .1)
 
-  pub union-meets : c ≡ Union → Meets c d t a → 2 ≤ t
+  pub union-meets : c ≡ Union → Meets c d t → 2 ≤ t
   unfolding effect
   union-meets e m = let m' = rw e at m in m' .0
 
-  pub relabel-meets : {i j : ℕ} → c ≡ Relabel i j → Meets c d t a → 1 ≤ t
+  pub relabel-meets : {i j : ℕ} → c ≡ Relabel i j → Meets c d t → 1 ≤ t
   unfolding effect
   relabel-meets e m = let m' = rw e at m in m' .0
 
-  pub connect-meets : {k : Kind} {i j : ℕ} → c ≡ Connect k i j → Meets c d t a → 1 ≤ t
+  pub connect-meets : {k : Kind} {i j : ℕ} → c ≡ Connect k i j → Meets c d t → 1 ≤ t
   unfolding effect
   connect-meets e m = let m' = rw e at m in m' .0
 

@@ -8,8 +8,6 @@ use lib.ListN.{length, length-map}
 use Rattle.lists.specs.Lists.{All}
 use Rattle.lists.specs.Sorted.{compareNumbers, Rising}
 use Rattle.lists.proofs.Members.{all-append}
-use Rattle.semantics.specs.AnswerSets.{Assumptions}
-use Rattle.tables.specs.Algebras.{leaf}
 use Rattle.tables.specs.Definitions.{subsets, pairs, flat}
 use Rattle.values.specs.Values.{valued}
 use Rattle.rows.specs.Parts.{put}
@@ -17,9 +15,10 @@ use Rattle.rows.specs.Rows.{tableOf}
 use Rattle.entries.specs.declared.Carry.{Carry}
 use Rattle.entries.specs.Carries.{Entry, Beside}
 use Rattle.making.specs.Making.{tableOfAll, Finished}
+use Rattle.leaves.specs.declared.Atom.{Atom}
 use Rattle.leaves.specs.declared.Tables.{Tables}
 use Rattle.leaves.specs.declared.Tables.the-variants.{Plain, Pairs}
-use Rattle.leaves.specs.Leaves.{algebraOf, tableAlgebra}
+use Rattle.leaves.specs.Leaves.{algebraOf, tableAlgebra, presentEntry, absentEntry, leafEntries}
 use Rattle.workspace.specs.Workspace.{pairsOf, valuesFrom, placed, Acted}
 use Rattle.workspace.proofs.Areas as areas
 use Rattle.workspace.proofs.Acting.{sound-pairs, acted}
@@ -36,38 +35,38 @@ Ordered x = Rising compareNumbers (subsets (x .item))
 
 -- ---- the candidates of a leaf
 
-unless : (Q : Entry → Type 0) (b : Bool) (x : Entry) → Q x → All Q (cond b [] (x ∷ []))
-unless Q true x h = tt
-unless Q false x h = (h, tt)
+where-so : (Q : Entry → Type 0) (b : Bool) (x : Entry) → Q x → All Q (cond b (x ∷ []) [])
+where-so Q true x h = (h, tt)
+where-so Q false x h = tt
+
+present-filled : (kind : Tables) (x : Atom) (g : ℕ) → Filled (presentEntry kind x g) × Ordered (presentEntry kind x g)
+unfolding algebraOf pairs flat Rising
+present-filled Plain x g = (omega arith, tt)
+present-filled Pairs x g = (omega arith, (tt, tt))
+
+absent-filled : (kind : Tables) (x : Atom) (g : ℕ) → Filled (absentEntry kind x g) × Ordered (absentEntry kind x g)
+unfolding algebraOf pairs flat Rising
+absent-filled Plain x g = (omega arith, tt)
+absent-filled Pairs x g = (omega arith, tt)
+
+module _ (kind : Tables) (x : Atom) (g : ℕ) where
+  of-leaf : (Q : Entry → Type 0) → Q (presentEntry kind x g) → Q (absentEntry kind x g) → All Q (leafEntries kind x g)
+  unfolding leafEntries
+  of-leaf Q h k =
+      all-append Q (cond (x .«may_be_in») (presentEntry kind x g ∷ []) []) (cond (x .«may_be_out») (absentEntry kind x g ∷ []) [])
+      (where-so Q (x .«may_be_in») (presentEntry kind x g) h) (where-so Q (x .«may_be_out») (absentEntry kind x g) k)
+
+  pub leaf-filled : All Filled (leafEntries kind x g)
+  leaf-filled = of-leaf Filled (present-filled kind x g .0) (absent-filled kind x g .0)
+
+  pub leaf-ordered : All Ordered (leafEntries kind x g)
+  leaf-ordered = of-leaf Ordered (present-filled kind x g .1) (absent-filled kind x g .1)
 
 module _ (carry : Carry) where
-  present-filled : (kind : Tables) (c g : ℕ) → Filled (tableAlgebra kind carry .present c g) × Ordered (tableAlgebra kind carry .present c g)
-  unfolding tableAlgebra algebraOf valued pairs flat Rising
-  present-filled Plain c g = (omega arith, tt)
-  present-filled Pairs c g = (omega arith, (tt, tt))
-
-  absent-filled : (kind : Tables) (c g : ℕ) → Filled (tableAlgebra kind carry .absent c g) × Ordered (tableAlgebra kind carry .absent c g)
-  unfolding tableAlgebra algebraOf valued pairs flat Rising
-  absent-filled Plain c g = (omega arith, tt)
-  absent-filled Pairs c g = (omega arith, tt)
-
   unmet-filled : (kind : Tables) (g : ℕ) → Filled (tableAlgebra kind carry .unmet g) × Ordered (tableAlgebra kind carry .unmet g)
   unfolding tableAlgebra algebraOf valued pairs flat Rising
   unmet-filled Plain g = (omega arith, tt)
   unmet-filled Pairs g = (omega arith, tt)
-
-  module _ (kind : Tables) (o : Assumptions) (c g : ℕ) where
-    of-leaf : (Q : Entry → Type 0) → Q (tableAlgebra kind carry .present c g) → Q (tableAlgebra kind carry .absent c g) → All Q (leaf (tableAlgebra kind carry) o c g)
-    unfolding leaf
-    of-leaf Q h k =
-        all-append Q (cond (o .falses c) [] (tableAlgebra kind carry .present c g ∷ [])) (cond (o .trues c) [] (tableAlgebra kind carry .absent c g ∷ []))
-        (unless Q (o .falses c) (tableAlgebra kind carry .present c g) h) (unless Q (o .trues c) (tableAlgebra kind carry .absent c g) k)
-
-    pub leaf-filled : All Filled (leaf (tableAlgebra kind carry) o c g)
-    leaf-filled = of-leaf Filled (present-filled kind c g .0) (absent-filled kind c g .0)
-
-    pub leaf-ordered : All Ordered (leaf (tableAlgebra kind carry) o c g)
-    leaf-ordered = of-leaf Ordered (present-filled kind c g .1) (absent-filled kind c g .1)
 
   pub rule-filled : (kind : Tables) (g : ℕ) → All Filled (tableAlgebra kind carry .unmet g ∷ [])
   rule-filled kind g = (unmet-filled kind g .0, tt)

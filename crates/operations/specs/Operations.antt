@@ -1,10 +1,8 @@
 -- One command on the tables of a workspace. Assumes nothing.
 use mathlib.Core.List.{List, [], _∷_}
-use Prim.Native.Nat.{ℕ, _+_, _≤_, _<_}
+use Prim.Native.Nat.{ℕ, _≤_, _<_}
 use Rattle.expression.specs.declared.Command.{Command}
-use Rattle.expression.specs.Limits.{atomLimit}
 use Rattle.expression.specs.Effects.{effect, needs, leaves}
-use Rattle.expression.specs.Reading.{newAtoms}
 use Rattle.entries.specs.declared.Carry.{Carry}
 use Rattle.entries.specs.Carries.{Entry}
 use Rattle.maps.specs.Maps.{batchedTable}
@@ -17,6 +15,6 @@ mappedTable carry c t = batchedTable carry (c ∷ []) t
 abbrev pub pushed : List Entry → List (List Entry) → List (List Entry)
 pushed x ts = x ∷ ts
 
--- where the command can act: operands enough, an area besides scratch for each table that it leaves, and a number for an atom
-abbrev pub Meets : Command → ℕ → ℕ → ℕ → Type 0
-Meets c d t a = (needs (effect c) ≤ t) × (leaves (effect c) t < d) × (a + newAtoms c ≤ atomLimit)
+-- where the command can act: operands enough, and an area besides scratch for each table that it leaves
+abbrev pub Meets : Command → ℕ → ℕ → Type 0
+Meets c d t = (needs (effect c) ≤ t) × (leaves (effect c) t < d)

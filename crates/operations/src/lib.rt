@@ -1,6 +1,7 @@
 // One command on the tables of a workspace.
 use entries::Carry;
 use expression::Command;
+use leaves::Atom;
 use leaves::Tables;
 use operands::unite_newest;
 use operands::values_from;
@@ -10,14 +11,14 @@ ghost use Prim.Native.Nat.{ℕ, _+_, _-_, _*_, _≤_, _<_};
 ghost use lib.ListN.{length};
 ghost use Rattle.labels.specs.Labels.{labelCount};
 ghost use Rattle.expression.specs.Commands.{Suits};
-ghost use Rattle.expression.specs.Limits.{atomLimit, depthLimit};
+ghost use Rattle.expression.specs.Limits.{depthLimit};
 ghost use Rattle.semantics.specs.Expressions.{act, changeNewest};
-ghost use Rattle.semantics.specs.AnswerSets.{byMasks};
-ghost use Rattle.tables.specs.Algebras.{leaf, tables};
+ghost use Rattle.semantics.specs.AnswerSets.{Assumptions};
+ghost use Rattle.tables.specs.Algebras.{tables};
 ghost use Rattle.batches.specs.Batches.{batchLimit, Joins, commandsOf};
 ghost use Rattle.entries.specs.Carries.{Beside, Kept};
 ghost use Rattle.making.specs.Making.{tableOfAll};
-ghost use Rattle.leaves.specs.Leaves.{tableAlgebra, Wide};
+ghost use Rattle.leaves.specs.Leaves.{tableAlgebra, atomAt, Resolved, leafEntries, KeepsBoth, Wide};
 ghost use Rattle.maps.specs.Maps.{batchedTable};
 ghost use Rattle.operands.specs.Operands.{Ready, Acts};
 ghost use Rattle.operations.specs.Operations.{Meets, mappedTable, pushed};
@@ -89,7 +90,7 @@ fn map_by(
     map_newest(ws, row, index, made, vals, carry, d, w, p, t, n, &ops)
 }
 
-// The table of the atom a, of label g, comes on t tables in d areas.
+// The table of an atom of label g comes on t tables in d areas.
 fn push_atom(
     ws: &mut [u32],
     row: &mut [u32],
@@ -102,15 +103,13 @@ fn push_atom(
     w: usize,
     p: usize,
     t: usize,
-    a: u64,
+    atom: Atom,
     g: u32,
-    assumed_true: u64,
-    assumed_false: u64,
 ) -> usize
-    requires { ⌜ Wide tables w × (p ≤ 1024) × (d ≤ depthLimit + 1) × (length (now row) ≡ w) × (p ≤ length (now index)) × (a < atomLimit) × (g < labelCount) ⌝ }
+    requires { ⌜ Wide tables w × (p ≤ 1024) × (d ≤ depthLimit + 1) × (length (now row) ≡ w) × (p ≤ length (now index)) × (g < labelCount) × KeepsBoth carry atom ⌝ }
     requires { ⌜ Kept carry p 0 (now made) × Beside carry ((d - 1) * p) (now vals) ⌝ }
     requires { ⌜ (t + 1 < d) × ((n : ℕ) × (m : ℕ) × Ready carry d w p t n m (now ws) (now vals)) ⌝ }
-    ensures { λ r. ⌜ ((n m : ℕ) → Acts carry d w p t n m (pushed (tableOfAll carry (leaf (tableAlgebra tables carry) (byMasks «assumed_true» «assumed_false») a g))) r (now (ws .entry)) (now (vals .entry)) (now (ws .exit)) (now (vals .exit)) (now (made .exit))) ⌝ }
+    ensures { λ r. ⌜ ((n m : ℕ) → Acts carry d w p t n m (pushed (tableOfAll carry (leafEntries tables atom g))) r (now (ws .entry)) (now (vals .entry)) (now (ws .exit)) (now (vals .exit)) (now (made .exit))) ⌝ }
 {
     let area = p * w;
     let r = leaf_tables::atom_table(
@@ -124,10 +123,8 @@ fn push_atom(
         p,
         t * area,
         (d - 1) * area,
-        a,
+        atom,
         g,
-        assumed_true,
-        assumed_false,
     );
     if r <= p {
         workspace::move_values(vals, made, carry, p, t, r);
@@ -173,7 +170,7 @@ fn push_rule(
     r
 }
 
-// The command on t tables in d areas, the newest of n entries and the one below it of m; a is the number of the next atom. The answer is how many
+// The command on t tables in d areas, the newest of n entries and the one below it of m; `atom` is the next atom. The answer is how many
 // entries the newest table has then; p + 1 where it would have more than p, p + 2 where a pair of it would have too many subsets.
 pub fn act(
     ws: &mut [u32],
@@ -190,33 +187,15 @@ pub fn act(
     n: usize,
     m: usize,
     c: Command,
-    a: u64,
-    assumed_true: u64,
-    assumed_false: u64,
+    atom: Atom,
 ) -> usize
     requires { ⌜ Wide kind w × (w ≤ 4096) × (1 ≤ p) × (p ≤ 1024) × (d ≤ depthLimit + 1) × (length (now row) ≡ w) × (p ≤ length (now index)) ⌝ }
     requires { ⌜ Kept carry p 0 (now made) × Beside carry ((d - 1) * p) (now vals) ⌝ }
-    requires { ⌜ Suits labelCount c × Meets c d t a × Ready carry d w p t n m (now ws) (now vals) ⌝ }
-    ensures { λ r. ⌜ Acts carry d w p t n m (act (tables (tableAlgebra kind carry) (byMasks «assumed_true» «assumed_false»)) a c) r (now (ws .entry)) (now (vals .entry)) (now (ws .exit)) (now (vals .exit)) (now (made .exit)) ⌝ }
+    requires { ⌜ Suits labelCount c × Meets c d t × Resolved carry atom × Ready carry d w p t n m (now ws) (now vals) ⌝ }
+    ensures { λ r. ⌜ ((o : Assumptions) (a : ℕ) → atom ≡ atomAt carry o a → Acts carry d w p t n m (act (tables (tableAlgebra kind carry) o) a c) r (now (ws .entry)) (now (vals .entry)) (now (ws .exit)) (now (vals .exit)) (now (made .exit))) ⌝ }
 {
     match c {
-        Command::Atom(g) => push_atom(
-            ws,
-            row,
-            index,
-            made,
-            vals,
-            kind,
-            carry,
-            d,
-            w,
-            p,
-            t,
-            a,
-            g,
-            assumed_true,
-            assumed_false,
-        ),
+        Command::Atom(g) => push_atom(ws, row, index, made, vals, kind, carry, d, w, p, t, atom, g),
         Command::Rule(g) => push_rule(ws, row, index, made, vals, kind, carry, d, w, p, t, g),
         Command::Union => unite_newest(ws, row, index, made, vals, carry, d, w, p, t, n, m),
         Command::Relabel(_, _) => map_by(ws, row, index, made, vals, carry, d, w, p, t, n, c),

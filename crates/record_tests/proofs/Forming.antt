@@ -17,7 +17,7 @@ use Rattle.expression.specs.declared.Checked.the-variants.{Passed}
 use Rattle.expression.specs.declared.Located.{Located}
 use Rattle.expression.specs.declared.Located.the-variants.{Before, Nowhere}
 use Rattle.expression.specs.declared.Read.the-variants.{Command as Got}
-use Rattle.expression.specs.Limits.{depthLimit, rowWords}
+use Rattle.expression.specs.Limits.{atomLimit, depthLimit, rowWords}
 use Rattle.expression.specs.Commands.{Suits, readAt}
 use Rattle.expression.specs.Reading.{depthAfter, counted, capped}
 use Rattle.expression.specs.Checks.{Request, check}
@@ -94,6 +94,10 @@ module _ (a : Request) (r : Record) (ws : List ℕ) where
     shallow : r .tables ≤ depthLimit
     shallow = omega (arith, deep, here .1 .1 .depth)
 
+    -- the next atom has a number
+    pub numbered : n .atoms ≤ atomLimit
+    numbered = here .1 .1 .atoms
+
     many : length (countsIn labelCount a r) ≡ r .tables
     many = length-take-le (r .tables) (r .counts) (omega (arith, shallow, eight))
 
@@ -122,10 +126,10 @@ module _ (a : Request) (r : Record) (ws : List ℕ) where
       pub suits : Suits labelCount c
       suits = read-suits labelCount (a .bytes) (r .place) c next read
 
-      passes-depth : Meets c (depthLimit + 1) (n .depth) (n .atoms)
+      passes-depth : Meets c (depthLimit + 1) (n .depth)
       passes-depth = passes-meets n c (here-passes labelCount (a .bytes) z here read) (here .1 .1)
 
-      pub meets : Meets c (depthLimit + 1) (r .tables) (n .atoms)
+      pub meets : Meets c (depthLimit + 1) (r .tables)
       meets = rw deep passes-depth
 
       -- how many tables it leaves

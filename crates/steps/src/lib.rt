@@ -3,11 +3,13 @@ use advances::advance_here;
 use advances::fault_of;
 use checks::checking::check;
 use commands::counting::counted;
+use entries::Carry;
 use expression::Checked;
 use expression::Counts;
 use expression::Located;
 use expression::Read;
 use expression::refusals::BAD_RECORD;
+use leaves::atom_at;
 use reader::read_next;
 use record_tests::formed_at;
 use records::Progress;
@@ -47,6 +49,7 @@ fn command(
         };
     };
     let limit = p as usize;
+    let atom = atom_at(Carry::Nothing, n.atoms, assumed_true, assumed_false);
     let mut counts = state.counts;
     let k = advance_here(
         ws,
@@ -55,9 +58,7 @@ fn command(
         limit,
         state.tables,
         c,
-        n.atoms,
-        assumed_true,
-        assumed_false,
+        atom,
     );
     if limit < k {
         return Stepped {

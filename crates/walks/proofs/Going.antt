@@ -94,7 +94,7 @@ module _ (kind : Tables) (carry : Carry) (o : Assumptions) (w p stop : ℕ) (s :
         pub suits : Suits labelCount c
         suits = read-suits labelCount s at c next got
 
-        pub meets : Meets c d (n .depth) (n .atoms)
+        pub meets : Meets c d (n .depth)
         meets = passes-meets n c (subst (λ x. countFault n x ≡ 0) is-command (N .passes)) (g .remains .1)
 
         abbrev pub after : List (List Entry)

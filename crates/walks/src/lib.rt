@@ -8,6 +8,7 @@ use commands::counting::no_counts;
 use entries::Carry;
 use expression::Read;
 use leaves::Tables;
+use leaves::atom_at;
 use reader::read_next;
 ghost use mathlib.Core.Path.{_≡_};
 ghost use mathlib.Core.List.{List, []};
@@ -82,6 +83,7 @@ fn walk_by(
             return Reached::Through(0);
         };
         let t = b.counts.depth as usize;
+        let atom = atom_at(carry, b.counts.atoms, assumed_true, assumed_false);
         let k = advance(
             ws,
             row,
@@ -96,9 +98,7 @@ fn walk_by(
             p,
             t,
             c,
-            b.counts.atoms,
-            assumed_true,
-            assumed_false,
+            atom,
         );
         if p < k {
             return Reached::Stopped(fault_of(p, k), b.next, t);

@@ -4,7 +4,6 @@ use mathlib.Core.List.{List}
 use Prim.Native.Nat.{ℕ}
 use lib.ListN.{length}
 use Rattle.expression.specs.declared.Effect.{Effect}
-use Rattle.semantics.specs.AnswerSets.{byMasks}
 use Rattle.tables.specs.Algebras.{tables}
 use Rattle.entries.specs.Carries.{Entry}
 use Rattle.leaves.specs.Leaves.{tableAlgebra}
@@ -46,7 +45,7 @@ act-requires : tie.Need-act-requires
 act-requires c κs =
     let v = c .before .before .before .before .before in
     let s = start v in
-    (s .pre .0, ((s .pre .1 .0 .0, s .pre .1 .0 .1), (s .pre .1 .0 .2, s .pre .1 .0 .3, (s .pre .1 .1 .0, s .pre .1 .1 .1, load v (s .pre .1 .1 .0) (s .pre .1 .1 .1) (standing s) (s .pre .1 .1 .3)))))
+    (s .pre .0, ((s .pre .1 .0 .0, s .pre .1 .0 .1), (s .pre .1 .0 .2, s .pre .1 .0 .3, s .pre .1 .0 .4, (s .pre .1 .1 .0, s .pre .1 .1 .1, load v (s .pre .1 .1 .0) (s .pre .1 .1 .1) (standing s) (s .pre .1 .1 .3)))))
 
 effect-requires : tie.Need-effect-requires
 effect-requires c κs = search needs
@@ -54,7 +53,7 @@ effect-requires c κs = search needs
 tally-requires : tie.Need-tally-requires
 tally-requires c κs =
     let s = start (c .before .before .before .before .before .before .before .before .before .before .before .before .before .before .before .before .before .before .before) in
-    subst (λ (x : Effect). Applies x (s .args .t) (length (s .args .counts .now))) (sym (c .effect .ensures)) (counts-apply (standing s) (s .pre .0 .4) (s .args .t) (s .pre .1 .1 .3) (s .args .c) (s .args .a) (s .pre .1 .0 .3))
+    subst (λ (x : Effect). Applies x (s .args .t) (length (s .args .counts .now))) (sym (c .effect .ensures)) (counts-apply (standing s) (s .pre .0 .4) (s .args .t) (s .pre .1 .1 .3) (s .args .c) (s .pre .1 .0 .3))
 
 same-length : tie.Need-same-length
 same-length c = search needs
@@ -80,8 +79,9 @@ returns c =
     let u = y .before .before .before .before .before .before .before .before .before .before .before .before .before .before in
     let v = u .before .before .before .before .before .before in
     let s = start v in
-    let B = tables (tableAlgebra (s .args .kind) (s .args .carry)) (byMasks (s .args .assumed-true) (s .args .assumed-false)) in
-    (λ ts beyond h e. advanced h (s .pre .0 .4) (s .args .t) e (s .args .c) (s .args .a) (s .pre .1 .0 .3) B (u .act .ensures .0 ts beyond (load v ts beyond h e)) (λ l. y .tally .ensures ∙ ap (λ (x : Effect). tallied x (s .args .t) (u .act .result) (s .args .counts .now)) (y .before .effect .ensures)) (λ l. absurd (omega (arith, y .before .before .before .if1 .taken))), u .act .ensures .1)
+    let R = s .pre .1 .0 .4 in
+    let A = tableAlgebra (s .args .kind) (s .args .carry) in
+    (λ o a x ts beyond h e. advanced h (s .pre .0 .4) (s .args .t) e (s .args .c) (s .pre .1 .0 .3) (tables A o) a (u .act .ensures o a x .0 ts beyond (load v ts beyond h e)) (λ l. y .tally .ensures ∙ ap (λ (x : Effect). tallied x (s .args .t) (u .act .result) (s .args .counts .now)) (y .before .effect .ensures)) (λ l. absurd (omega (arith, y .before .before .before .if1 .taken))), u .act .ensures (R .0) (R .1) (R .2) .1)
 
 same-length-7 : tie.Need-same-length-7
 same-length-7 c = search needs
@@ -106,8 +106,9 @@ returns-2 c =
     let u = c .before .before .before .before .before .before .before .before .before .before .before in
     let v = u .before .before .before .before .before .before in
     let s = start v in
-    let B = tables (tableAlgebra (s .args .kind) (s .args .carry)) (byMasks (s .args .assumed-true) (s .args .assumed-false)) in
-    (λ ts beyond h e. advanced h (s .pre .0 .4) (s .args .t) e (s .args .c) (s .args .a) (s .pre .1 .0 .3) B (u .act .ensures .0 ts beyond (load v ts beyond h e)) (λ l. absurd (omega (arith, c .if1 .left))) (λ l. refl), u .act .ensures .1)
+    let R = s .pre .1 .0 .4 in
+    let A = tableAlgebra (s .args .kind) (s .args .carry) in
+    (λ o a x ts beyond h e. advanced h (s .pre .0 .4) (s .args .t) e (s .args .c) (s .pre .1 .0 .3) (tables A o) a (u .act .ensures o a x .0 ts beyond (load v ts beyond h e)) (λ l. absurd (omega (arith, c .if1 .left))) (λ l. refl), u .act .ensures (R .0) (R .1) (R .2) .1)
 
 pub advance-spec : {M : Type 1} → statement M
 advance-spec =

@@ -24,7 +24,7 @@ advance-requires : tie.Need-advance-requires
 advance-requires c κs =
     let s = c .before .before .before .before .before .before .before .before .before .before .before .before in
     let q = s .pre in
-    ((q .0 .0, omega (arith, q .0 .1), q .0 .2, q .0 .3, omega arith, length-take-le (s .args .w) (s .args .row .now) (q .0 .4), q .0 .5), (((refl, refl), omega arith, q .1 .0, q .1 .1), (q .1 .2 .0, q .1 .2 .1, stands-any _ _ (q .1 .2 .2), q .1 .2 .3)))
+    ((q .0 .0, omega (arith, q .0 .1), q .0 .2, q .0 .3, omega arith, length-take-le (s .args .w) (s .args .row .now) (q .0 .4), q .0 .5), (((refl, refl), omega arith, q .1 .0, q .1 .1, q .1 .2), (q .1 .3 .0, q .1 .3 .1, stands-any _ _ (q .1 .3 .2), q .1 .3 .3)))
 
 same-length : tie.Need-same-length
 same-length c = search needs
@@ -47,7 +47,7 @@ same-length-6 c = search needs
 returns : tie.Need-returns
 returns c =
     let v = c .before .before .before .before .before .before .before .before .before .before .before .before in
-    λ ts beyond h e. advanced-any _ _ (v .advance .ensures .0 ts beyond (stands-any _ _ h) e)
+    λ o a x ts beyond h e. advanced-any _ _ (v .advance .ensures .0 o a x ts beyond (stands-any _ _ h) e)
 
 pub advance-in-spec : {M : Type 1} → statement M
 advance-in-spec =

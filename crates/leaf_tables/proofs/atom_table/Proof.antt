@@ -4,13 +4,11 @@ use mathlib.Core.List.{List, []}
 use Prim.Native.Nat.{_*_, _≤_}
 use native.Mathlib.Omega.{arith}
 use lib.ListN.{length}
-use Rattle.semantics.specs.AnswerSets.{byMasks}
-use Rattle.tables.specs.Algebras.{leaf}
 use Rattle.entries.specs.Carries.{Entry}
 use Rattle.making.specs.Making.{Making, Stepped}
 use Rattle.making.proofs.Stepping.{stepped}
 use Rattle.making.proofs.Settling.{begin, finished, stepped-below, stepped-indexed}
-use Rattle.leaves.specs.Leaves.{tableAlgebra}
+use Rattle.leaves.specs.Leaves.{leafEntries}
 use Rattle.leaves.proofs.Writing.{wide-two}
 use Rattle.leaf_tables.proofs.Leaves.{no-rows}
 use borrow.Author.Needs.{needs}
@@ -21,7 +19,7 @@ abbrev start : tie.After-put-leaf → tie.Start
 start u = u .before .before .before .before .before .before .before .before .before
 
 abbrev cands : tie.Start → List Entry
-cands s = leaf (tableAlgebra (s .args .tables) (s .args .carry)) (byMasks (s .args .assumed-true) (s .args .assumed-false)) (s .args .c) (s .args .g)
+cands s = leafEntries (s .args .tables) (s .args .atom) (s .args .g)
 
 two : (s : tie.Start) → 2 ≤ s .args .w
 two s = wide-two (s .args .tables) (s .args .w) (s .pre .0 .0)

@@ -4,7 +4,6 @@ use Prim.Native.Nat.{ℕ}
 use native.Mathlib.Omega.{arith}
 use Rattle.values.specs.declared.Value.{Value}
 use Rattle.values.specs.Values.{inLow}
-use Rattle.values.specs.First.{firstWeight}
 use Rattle.values.specs.Consequences.{consequences}
 use Rattle.leaves.proofs.Writing.{mark-is}
 use borrow.Author.Needs.{needs}
@@ -17,14 +16,8 @@ enum-told c = search needs
 enum-told-2 : tie.Need-enum-told-2
 enum-told-2 c = search needs
 
-add-low : tie.Need-add-low
-add-low c = search needs
-
-sub-low : tie.Need-sub-low
-sub-low c = search needs
-
-shl-low : tie.Need-shl-low
-shl-low c = search needs
+first-weight-requires : tie.Need-first-weight-requires
+first-weight-requires c κs = search needs
 
 enum-told-3 : tie.Need-enum-told-3
 enum-told-3 c = search needs
@@ -36,7 +29,7 @@ returns : tie.Need-returns
 returns c = rw (c .enum-told .given .1) refl
 
 returns-2 : tie.Need-returns-2
-returns-2 c = rw (c .enum-told2 .given .1) (unfold firstWeight in (ap inLow (mark-is _ 64 (omega arith))))
+returns-2 c = rw (c .before .enum-told2 .given .1) (ap inLow (c .first-weight .ensures))
 
 returns-3 : tie.Need-returns-3
 returns-3 c = rw (c .enum-told3 .given .1) (unfold consequences in (ap {B = Value} (λ (x : ℕ). record { high = x; low = x }) (mark-is (c .before .before .args .c) 64 (omega (arith, c .before .before .pre)))))
@@ -47,9 +40,7 @@ present-value-spec =
     (tie.spec
     enum-told
     enum-told-2
-    add-low
-    sub-low
-    shl-low
+    first-weight-requires
     enum-told-3
     shl-mask
     returns

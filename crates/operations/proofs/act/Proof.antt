@@ -1,6 +1,6 @@
 -- `operations::act`: one function for each kind of command.
-use Rattle.semantics.specs.AnswerSets.{byMasks}
 use Rattle.leaves.proofs.Writing.{wide-two}
+use Rattle.leaves.proofs.Atoms.{keeps-both}
 use Rattle.operations.proofs.Dispatch.{acts-as, atom-acts, rule-acts, union-acts, relabel-acts, connect-acts, atom-meets, rule-meets, union-meets, relabel-meets, connect-meets, relabel-joins, connect-joins}
 use borrow.Author.Needs.{needs}
 use Rattle.operations.proofs.act.Statement.{statement}
@@ -13,8 +13,8 @@ push-atom-requires : tie.Need-push-atom-requires
 push-atom-requires c κs =
     let e = c .before .before .before .before .before .before in
     let s = e .before .before .before .before .before .before .before in
-    let h = atom-meets (s .args .d) (s .args .t) (s .args .a) (e .c .given .1) (s .pre .1 .1 .0) (s .pre .1 .1 .1) in
-    ((s .pre .0 .0, s .pre .0 .3, s .pre .0 .4, s .pre .0 .5, s .pre .0 .6, h .2, h .0), (s .pre .1 .0, (h .1, (s .args .n, s .args .m, s .pre .1 .1 .2))))
+    let h = atom-meets (s .args .d) (s .args .t) (e .c .given .1) (s .pre .1 .1 .0) (s .pre .1 .1 .1) in
+    ((s .pre .0 .0, s .pre .0 .3, s .pre .0 .4, s .pre .0 .5, s .pre .0 .6, h .0, keeps-both (s .args .carry) (s .pre .1 .1 .2)), (s .pre .1 .0, (h .1, (s .args .n, s .args .m, s .pre .1 .1 .3))))
 
 enum-known-c-2 : tie.Need-enum-known-c-2
 enum-known-c-2 c = search needs
@@ -23,8 +23,8 @@ push-rule-requires : tie.Need-push-rule-requires
 push-rule-requires c κs =
     let e = c .before .before .before .before .before .before in
     let s = e .before .before .before .before .before .before .before in
-    let h = rule-meets (s .args .d) (s .args .t) (s .args .a) (e .c2 .given .1) (s .pre .1 .1 .0) (s .pre .1 .1 .1) in
-    ((wide-two (s .args .kind) (s .args .w) (s .pre .0 .0), s .pre .0 .2, s .pre .0 .3, s .pre .0 .4, s .pre .0 .5, s .pre .0 .6, h .0), (s .pre .1 .0, (h .1, (s .args .n, s .args .m, s .pre .1 .1 .2))))
+    let h = rule-meets (s .args .d) (s .args .t) (e .c2 .given .1) (s .pre .1 .1 .0) (s .pre .1 .1 .1) in
+    ((wide-two (s .args .kind) (s .args .w) (s .pre .0 .0), s .pre .0 .2, s .pre .0 .3, s .pre .0 .4, s .pre .0 .5, s .pre .0 .6, h .0), (s .pre .1 .0, (h .1, (s .args .n, s .args .m, s .pre .1 .1 .3))))
 
 enum-told : tie.Need-enum-told
 enum-told c = search needs
@@ -33,7 +33,7 @@ unite-newest-requires : tie.Need-unite-newest-requires
 unite-newest-requires c κs =
     let e = c .before .before .before .before .before in
     let s = e .before .before .before .before .before .before .before in
-    ((wide-two (s .args .kind) (s .args .w) (s .pre .0 .0), s .pre .0 .1, s .pre .0 .3, s .pre .0 .4, s .pre .0 .5, s .pre .0 .6), (s .pre .1 .0, (union-meets (s .args .d) (s .args .t) (s .args .a) (e .enum-told .given .1) (s .pre .1 .1 .1), s .pre .1 .1 .2)))
+    ((wide-two (s .args .kind) (s .args .w) (s .pre .0 .0), s .pre .0 .1, s .pre .0 .3, s .pre .0 .4, s .pre .0 .5, s .pre .0 .6), (s .pre .1 .0, (union-meets (s .args .d) (s .args .t) (e .enum-told .given .1) (s .pre .1 .1 .1), s .pre .1 .1 .3)))
 
 enum-told-2 : tie.Need-enum-told-2
 enum-told-2 c = search needs
@@ -42,7 +42,7 @@ map-by-requires : tie.Need-map-by-requires
 map-by-requires c κs =
     let e = c .before .before .before .before .before in
     let s = e .before .before .before .before .before .before .before in
-    ((wide-two (s .args .kind) (s .args .w) (s .pre .0 .0), s .pre .0 .1, s .pre .0 .3, s .pre .0 .4, s .pre .0 .5, s .pre .0 .6), ((s .pre .1 .0 .0, s .pre .1 .0 .1, s .pre .1 .1 .0, relabel-joins (e .enum-told2 .given .1)), (relabel-meets (s .args .d) (s .args .t) (s .args .a) (e .enum-told2 .given .1) (s .pre .1 .1 .1), (s .args .m, s .pre .1 .1 .2))))
+    ((wide-two (s .args .kind) (s .args .w) (s .pre .0 .0), s .pre .0 .1, s .pre .0 .3, s .pre .0 .4, s .pre .0 .5, s .pre .0 .6), ((s .pre .1 .0 .0, s .pre .1 .0 .1, s .pre .1 .1 .0, relabel-joins (e .enum-told2 .given .1)), (relabel-meets (s .args .d) (s .args .t) (e .enum-told2 .given .1) (s .pre .1 .1 .1), (s .args .m, s .pre .1 .1 .3))))
 
 enum-told-3 : tie.Need-enum-told-3
 enum-told-3 c = search needs
@@ -51,7 +51,7 @@ map-by-requires-2 : tie.Need-map-by-requires-2
 map-by-requires-2 c κs =
     let e = c .before .before .before .before .before in
     let s = e .before .before .before .before .before .before .before in
-    ((wide-two (s .args .kind) (s .args .w) (s .pre .0 .0), s .pre .0 .1, s .pre .0 .3, s .pre .0 .4, s .pre .0 .5, s .pre .0 .6), ((s .pre .1 .0 .0, s .pre .1 .0 .1, s .pre .1 .1 .0, connect-joins (e .enum-told3 .given .1)), (connect-meets (s .args .d) (s .args .t) (s .args .a) (e .enum-told3 .given .1) (s .pre .1 .1 .1), (s .args .m, s .pre .1 .1 .2))))
+    ((wide-two (s .args .kind) (s .args .w) (s .pre .0 .0), s .pre .0 .1, s .pre .0 .3, s .pre .0 .4, s .pre .0 .5, s .pre .0 .6), ((s .pre .1 .0 .0, s .pre .1 .0 .1, s .pre .1 .1 .0, connect-joins (e .enum-told3 .given .1)), (connect-meets (s .args .d) (s .args .t) (e .enum-told3 .given .1) (s .pre .1 .1 .1), (s .args .m, s .pre .1 .1 .3))))
 
 same-length : tie.Need-same-length
 same-length c = search needs
@@ -73,7 +73,7 @@ returns c =
     let u = c .before .before .before .before .before .before .before .before .before .before in
     let e = u .before .before .before .before .before .before .before in
     let s = e .before .before .before .before .before .before .before in
-    acts-as _ (atom-acts (s .args .kind) (s .args .carry) (byMasks (s .args .assumed-true) (s .args .assumed-false)) (s .args .a) _ (e .c .given .1)) (u .push-atom .ensures (s .args .n) (s .args .m))
+    λ o a x. acts-as _ (atom-acts (s .args .kind) (s .args .carry) o a x _ (e .c .given .1)) (u .push-atom .ensures (s .args .n) (s .args .m))
 
 same-length-6 : tie.Need-same-length-6
 same-length-6 c = search needs
@@ -95,7 +95,7 @@ returns-2 c =
     let u = c .before .before .before .before .before .before .before .before .before .before in
     let e = u .before .before .before .before .before .before .before in
     let s = e .before .before .before .before .before .before .before in
-    acts-as _ (rule-acts (s .args .kind) (s .args .carry) (byMasks (s .args .assumed-true) (s .args .assumed-false)) (s .args .a) _ (e .c2 .given .1)) (u .push-rule .ensures (s .args .n) (s .args .m))
+    λ o a x. acts-as _ (rule-acts (s .args .kind) (s .args .carry) o a _ (e .c2 .given .1)) (u .push-rule .ensures (s .args .n) (s .args .m))
 
 same-length-11 : tie.Need-same-length-11
 same-length-11 c = search needs
@@ -117,7 +117,7 @@ returns-3 c =
     let u = c .before .before .before .before .before .before .before .before .before .before in
     let e = u .before .before .before .before .before .before in
     let s = e .before .before .before .before .before .before .before in
-    acts-as _ (union-acts (s .args .kind) (s .args .carry) (byMasks (s .args .assumed-true) (s .args .assumed-false)) (s .args .a) (e .enum-told .given .1)) (u .unite-newest .ensures)
+    λ o a x. acts-as _ (union-acts (s .args .kind) (s .args .carry) o a (e .enum-told .given .1)) (u .unite-newest .ensures)
 
 same-length-16 : tie.Need-same-length-16
 same-length-16 c = search needs
@@ -139,7 +139,7 @@ returns-4 c =
     let u = c .before .before .before .before .before .before .before .before .before .before in
     let e = u .before .before .before .before .before .before in
     let s = e .before .before .before .before .before .before .before in
-    acts-as _ (relabel-acts (s .args .kind) (s .args .carry) (byMasks (s .args .assumed-true) (s .args .assumed-false)) (s .args .a) _ _ (e .enum-told2 .given .1)) (u .map-by .ensures (s .args .m))
+    λ o a x. acts-as _ (relabel-acts (s .args .kind) (s .args .carry) o a _ _ (e .enum-told2 .given .1)) (u .map-by .ensures (s .args .m))
 
 same-length-21 : tie.Need-same-length-21
 same-length-21 c = search needs
@@ -161,7 +161,7 @@ returns-5 c =
     let u = c .before .before .before .before .before .before .before .before .before .before in
     let e = u .before .before .before .before .before .before in
     let s = e .before .before .before .before .before .before .before in
-    acts-as _ (connect-acts (s .args .kind) (s .args .carry) (byMasks (s .args .assumed-true) (s .args .assumed-false)) (s .args .a) _ _ _ (e .enum-told3 .given .1)) (u .map-by2 .ensures (s .args .m))
+    λ o a x. acts-as _ (connect-acts (s .args .kind) (s .args .carry) o a _ _ _ (e .enum-told3 .given .1)) (u .map-by2 .ensures (s .args .m))
 
 pub act-spec : {M : Type 1} → statement M
 act-spec =

@@ -2,7 +2,6 @@
 use Prim.Native.Nat.{ℕ, _+_, _-_, _*_, _≤_, _<_}
 use lib.ListN.{length}
 use Rattle.rows.proofs.Tables.{row-within}
-use Rattle.semantics.specs.AnswerSets.{byMasks}
 use Rattle.operands.specs.Operands.{Loaded}
 use Rattle.operands.proofs.Loads.{beside-room, inside, scratch-zero, free-zero}
 use Rattle.leaves.proofs.Writing.{wide-two}
@@ -54,7 +53,7 @@ mul-atom-table-2 c =
 atom-table-requires : tie.Need-atom-table-requires
 atom-table-requires c κs =
     let s = c .before .before .before .before .before .before .before .before .before in
-    ((s .pre .0 .0, s .pre .0 .1, s .pre .0 .3, s .pre .0 .6, s .pre .0 .5), ((apart s, last s), (free-zero (held s), scratch-zero (held s), s .pre .0 .4, s .pre .1 .0 .0)))
+    ((s .pre .0 .0, s .pre .0 .1, s .pre .0 .3, s .pre .0 .5, s .pre .0 .6), ((apart s, last s), (free-zero (held s), scratch-zero (held s), s .pre .0 .4, s .pre .1 .0 .0)))
 
 move-values-requires : tie.Need-move-values-requires
 move-values-requires c κs =
@@ -83,8 +82,7 @@ returns c =
     let m = c .before .before .before .before in
     let u = m .before .before .before .before .before .before .before .before .before .before .before .before in
     let s = u .before .before .before .before .before .before .before .before .before .before in
-    let o = byMasks (s .args .assumed-true) (s .args .assumed-false) in
-    λ x y. (pushed-acted (wide-two (s .args .tables) (s .args .w) (s .pre .0 .0)) (deep s) (s .pre .1 .0 .1) (u .atom-table .ensures .0) (leaf-filled (s .args .carry) (s .args .tables) o (s .args .a) (s .args .g)) (leaf-ordered (s .args .carry) (s .args .tables) o (s .args .a) (s .args .g)) (λ l. m .move-values .ensures .1), λ l. m .move-values .ensures .0)
+    λ x y. (pushed-acted (wide-two (s .args .tables) (s .args .w) (s .pre .0 .0)) (deep s) (s .pre .1 .0 .1) (u .atom-table .ensures .0) (leaf-filled (s .args .tables) (s .args .atom) (s .args .g)) (leaf-ordered (s .args .tables) (s .args .atom) (s .args .g)) (λ l. m .move-values .ensures .1), λ l. m .move-values .ensures .0)
 
 same-length-6 : tie.Need-same-length-6
 same-length-6 c = search needs
@@ -102,8 +100,7 @@ returns-2 : tie.Need-returns-2
 returns-2 c =
     let u = c .before .before .before .before .before .before .before .before .before in
     let s = u .before .before .before .before .before .before .before .before .before .before in
-    let o = byMasks (s .args .assumed-true) (s .args .assumed-false) in
-    λ x y. (pushed-acted (wide-two (s .args .tables) (s .args .w) (s .pre .0 .0)) (deep s) (s .pre .1 .0 .1) (u .atom-table .ensures .0) (leaf-filled (s .args .carry) (s .args .tables) o (s .args .a) (s .args .g)) (leaf-ordered (s .args .carry) (s .args .tables) o (s .args .a) (s .args .g)) (λ l. absurd (omega (arith, c .if1 .left))), λ l. absurd (omega (arith, c .if1 .left)))
+    λ x y. (pushed-acted (wide-two (s .args .tables) (s .args .w) (s .pre .0 .0)) (deep s) (s .pre .1 .0 .1) (u .atom-table .ensures .0) (leaf-filled (s .args .tables) (s .args .atom) (s .args .g)) (leaf-ordered (s .args .tables) (s .args .atom) (s .args .g)) (λ l. absurd (omega (arith, c .if1 .left))), λ l. absurd (omega (arith, c .if1 .left)))
 
 pub push-atom-spec : {M : Type 1} → statement M
 push-atom-spec =

@@ -17,7 +17,7 @@ use Rattle.checks.proofs.Passing.{accepted}
 use Rattle.records.specs.Steps.{found, moveTo, command}
 use Rattle.starts.proofs.Cases.{command-none, command-read, by-stays, by-all}
 use Rattle.advances.proofs.Bare.{bare}
-use Rattle.record_tests.proofs.Forming.{stands, bare-many, suits, meets, tables-after}
+use Rattle.record_tests.proofs.Forming.{numbered, stands, bare-many, suits, meets, tables-after}
 use Rattle.record_tests.proofs.Lengths.{eight}
 use Rattle.steps.proofs.Moving.{made, meant, refused-follows, moved-follows}
 use borrow.Author.Needs.{needs}
@@ -55,14 +55,17 @@ module _ (e : tie.After-r) where
 
 -- it acted
 module _ (v : tie.After-advance-here) where
+  abbrev resolved : tie.After-atom-at
+  resolved = v .before .before .before .before
+
   abbrev given : tie.After-r
-  given = v .before .before .before .before .before
+  given = resolved .before .before
 
   abbrev s : tie.Start
   s = origin given
 
   acted : Advanced Nothing (depthLimit + 1) (s .args .g + 2) (s .args .p) (made (asked s) (s .args .n .atoms) (action given) (found labelCount (asked s) (s .args .state) (s .args .ws .now))) (drop (workspaceNeed (s .args .p) (s .args .g)) (s .args .ws .now)) (v .advance-here .result) (s .args .ws .now) (s .args .state .counts) (v .advance-here .last .0) [] (v .advance-here .last .1 .0)
-  acted = v .advance-here .ensures _ _ (standing s) (as-many s)
+  acted = v .advance-here .ensures _ _ (resolved .atom-at .ensures) _ _ (standing s) (as-many s)
 
   commands : command labelCount (asked s) (s .args .n) (s .args .state) (s .args .ws .now) ≡ moveTo labelCount (asked s) (next given) (meant (asked s) (s .args .n .atoms) (action given) (found labelCount (asked s) (s .args .state) (s .args .ws .now))) (s .args .state) (s .args .ws .now)
   commands = command-read labelCount (asked s) (s .args .state) (s .args .ws .now) (s .args .n) (read given)
@@ -81,19 +84,24 @@ returns c =
     let s = c .before .before .before .before .before in
     by-stays (command-none labelCount (asked s) (s .args .state) (s .args .ws .now) (s .args .n) (sym (c .before .before .read-next .ensures) ∙ c .enum-told .given .1)) _ refl
 
+atom-at-requires : tie.Need-atom-at-requires
+atom-at-requires c κs =
+    let s = origin (c .before) in numbered (asked s) (s .args .state) (s .args .ws .now) (s .pre .0 .1) (s .pre .1) refl (eight (s .args .state) _ (s .good .0))
+
 slice-aggregate-advance-here : tie.Need-slice-aggregate-advance-here
 slice-aggregate-advance-here c = search needs
 
 add-advance-here : tie.Need-add-advance-here
-add-advance-here c = let s = c .before .before .before .before .before .before .before .before .before in omega (arith, accepted (asked s) (s .pre .0 .1) .subsets .1)
+add-advance-here c = let s = c .before .before .before .before .before .before .before .before .before .before in omega (arith, accepted (asked s) (s .pre .0 .1) .subsets .1)
 
 advance-here-requires : tie.Need-advance-here-requires
 advance-here-requires c κs =
-    let e = c .before .before .before .before in
+    let x = c .before .before .before in
+    let e = x .before .before in
     let s = origin e in
     let A = accepted (asked s) (s .pre .0 .1) in
     let k = eight (s .args .state) _ (s .good .0) in
-    ((omega (arith, A .subsets .0), omega (arith, A .subsets .1), A .pairs .0, A .pairs .1), (suits (asked s) (s .args .state) (s .args .ws .now) (s .pre .0 .1) (s .pre .1) refl k (action e) (next e) (read e), meets (asked s) (s .args .state) (s .args .ws .now) (s .pre .0 .1) (s .pre .1) refl k (action e) (next e) (read e), (_, _, standing s, as-many s)))
+    ((omega (arith, A .subsets .0), omega (arith, A .subsets .1), A .pairs .0, A .pairs .1), (suits (asked s) (s .args .state) (s .args .ws .now) (s .pre .0 .1) (s .pre .1) refl k (action e) (next e) (read e), meets (asked s) (s .args .state) (s .args .ws .now) (s .pre .0 .1) (s .pre .1) refl k (action e) (next e) (read e), (_, _, x .atom-at .ensures), (_, _, standing s, as-many s)))
 
 fault-of-requires : tie.Need-fault-of-requires
 fault-of-requires c κs =
@@ -130,6 +138,7 @@ command-spec =
     enum-known-r
     enum-told
     returns
+    atom-at-requires
     slice-aggregate-advance-here
     add-advance-here
     advance-here-requires

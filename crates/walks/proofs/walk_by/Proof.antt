@@ -119,8 +119,11 @@ module _ (e : tie.After-known-told Inv-loop μ-loop) where
   there : to by < st by .args .stop
   there = omega (arith, e .before .before .before .before .if1 .left)
 
+abbrev resolved : tie.After-advance Inv-loop μ-loop → tie.After-atom-at Inv-loop μ-loop
+resolved u = u .before .before .before .before .before .before .before
+
 abbrev told : tie.After-advance Inv-loop μ-loop → tie.After-known-told Inv-loop μ-loop
-told u = u .before .before .before .before .before .before .before
+told u = resolved u .before
 
 no-counts-requires : tie.Need-no-counts-requires Inv-loop μ-loop
 no-counts-requires c κs = search needs
@@ -199,13 +202,21 @@ returns-2 c =
     let a = ran (c .before .before .before .before) in
     λ beyond h. absurd (not-fault (st a .args .kind) (st a .args .carry) (byMasks (st a .args .assumed-true) (st a .args .assumed-false)) (st a .args .w) (st a .args .p) (st a .args .stop) (st a .args .s .now) (going-after a beyond h .leading) (st a .pre .0 .6) (omega (arith, c .before .before .before .if1 .left)) _ (sym (c .before .before .read-next .ensures) ∙ c .enum-told .given .1))
 
+-- no more atoms come than there are numbers
+atom-at-requires : tie.Need-atom-at-requires Inv-loop μ-loop
+atom-at-requires c κs =
+    let a = by c in
+    let s = st a in
+    going-after a (s .pre .1 .1 .1 .0) (s .pre .1 .1 .1 .1) .leading .remains .1 .atoms
+
 advance-requires : tie.Need-advance-requires Inv-loop μ-loop
 advance-requires c κs =
-    let e = c .before .before .before .before .before .before in
+    let x = c .before .before .before .before .before .before in
+    let e = x .before in
     let a = by e in
     let s = st a in
     let g = going-after a (s .pre .1 .1 .1 .0) (s .pre .1 .1 .1 .1) in
-    ((s .pre .0 .0, s .pre .0 .1, s .pre .0 .2, s .pre .0 .3, omega arith, row-long a, omega (arith, s .pre .0 .5, index-long a)), ((a .run-ahead .ensures .1, beside-as (s .args .carry) (depthLimit * s .args .p) (s .args .vals .now) (a .run-ahead .last .1 .1 .1 .1 .1 .1 .1 .1 .1 .0) (vals-long a) (s .pre .1 .0 .1), suits (st a .args .kind) (st a .args .carry) (byMasks (st a .args .assumed-true) (st a .args .assumed-false)) (st a .args .w) (st a .args .p) (st a .args .stop) (st a .args .s .now) (g .leading) (s .pre .0 .6) (there e) _ _ (got e), meets (st a .args .kind) (st a .args .carry) (byMasks (st a .args .assumed-true) (st a .args .assumed-false)) (st a .args .w) (st a .args .p) (st a .args .stop) (st a .args .s .now) (g .leading) (s .pre .0 .6) (there e) _ _ (got e)), (g .stack, s .pre .1 .1 .1 .0, g .stands, g .leading .deep)))
+    ((s .pre .0 .0, s .pre .0 .1, s .pre .0 .2, s .pre .0 .3, omega arith, row-long a, omega (arith, s .pre .0 .5, index-long a)), ((a .run-ahead .ensures .1, beside-as (s .args .carry) (depthLimit * s .args .p) (s .args .vals .now) (a .run-ahead .last .1 .1 .1 .1 .1 .1 .1 .1 .1 .0) (vals-long a) (s .pre .1 .0 .1), suits (st a .args .kind) (st a .args .carry) (byMasks (st a .args .assumed-true) (st a .args .assumed-false)) (st a .args .w) (st a .args .p) (st a .args .stop) (st a .args .s .now) (g .leading) (s .pre .0 .6) (there e) _ _ (got e), meets (st a .args .kind) (st a .args .carry) (byMasks (st a .args .assumed-true) (st a .args .assumed-false)) (st a .args .w) (st a .args .p) (st a .args .stop) (st a .args .s .now) (g .leading) (s .pre .0 .6) (there e) _ _ (got e), (_, _, x .atom-at .ensures)), (g .stack, s .pre .1 .1 .1 .0, g .stands, g .leading .deep)))
 
 fault-of-requires : tie.Need-fault-of-requires Inv-loop μ-loop
 fault-of-requires c κs = let s = st (by (told (c .before .before .before .before .before .before .before .before .before .before .before .before .before))) in (omega (arith, c .if2 .taken), s .pre .0 .3)
@@ -238,7 +249,7 @@ returns-3 c =
     let a = by e in
     λ beyond h.
     let g = going-after a beyond h in
-    let b = u .advance .ensures .0 (g .stack) beyond (g .stands) (g .leading .deep) in
+    let b = u .advance .ensures .0 _ _ (resolved u .atom-at .ensures) (g .stack) beyond (g .stands) (g .leading .deep) in
     (going-stops (st a .args .kind) (st a .args .carry) (byMasks (st a .args .assumed-true) (st a .args .assumed-false)) (st a .args .w) (st a .args .p) (st a .args .stop) (st a .args .s .now) (g .leading) (st a .pre .0 .6) (there e) _ _ (got e) b (omega (arith, c .before .if2 .taken)) _ (c .fault-of .ensures), (map pairsOf (g .stack), standing-still (st a .args .kind) (st a .args .carry) (byMasks (st a .args .assumed-true) (st a .args .assumed-false)) (st a .args .w) (st a .args .p) (st a .args .stop) (st a .args .s .now) (g .leading) (st a .pre .0 .6) (there e) _ _ (got e) b (g .stands) (omega (arith, c .before .if2 .taken))))
 
 counted-requires : tie.Need-counted-requires Inv-loop μ-loop
@@ -266,7 +277,7 @@ loop-again c =
       u .advance .ensures .1 few,
       λ z beyond hz h.
           let g = after a z beyond (here a .loop .inv .8 z beyond hz h) in
-          let b = u .advance .ensures .0 (g .stack) beyond (g .stands) (g .leading .deep) in
+          let b = u .advance .ensures .0 _ _ (resolved u .atom-at .ensures) (g .stack) beyond (g .stands) (g .leading .deep) in
           going-on (st a .args .kind) (st a .args .carry) (byMasks (st a .args .assumed-true) (st a .args .assumed-false)) (st a .args .w) (st a .args .p) (st a .args .stop) (st a .args .s .now) (g .leading) (st a .pre .0 .6) (there e) _ _ (got e) b few _ (c .counted .ensures),
     )
 
@@ -324,6 +335,7 @@ walk-by-spec =
     same-length-13
     same-length-14
     returns-2
+    atom-at-requires
     advance-requires
     fault-of-requires
     same-length-15
