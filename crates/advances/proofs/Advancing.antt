@@ -12,17 +12,13 @@ use Rattle.semantics.proofs.Effects.{act-does}
 use Rattle.rows.specs.Parts.{zeros}
 use Rattle.rows.proofs.Parts.{zeros-long}
 use Rattle.entries.specs.declared.Carry.{Carry}
-use Rattle.entries.specs.Carries.{Entry, Beside}
+use Rattle.entries.specs.Carries.{Entry}
 use Rattle.workspace.specs.Workspace.{stackCounts, countsOf, Acted}
 use Rattle.stacks.specs.Stacks.{countBelow, Applies, tallied}
 use Rattle.stacks.proofs.Counts.{counts-long, count-newest, count-second, tally-does}
 use Rattle.operands.specs.Operands.{Loaded}
 use Rattle.operations.specs.Operations.{Meets}
 use Rattle.advances.specs.Advances.{Stands, Advanced}
-
--- values as many as before
-pub beside-as : (carry : Carry) (n : ℕ) (vals vals' : List ℕ) → length vals' ≡ length vals → Beside carry n vals → Beside carry n vals'
-beside-as carry n vals vals' e h = omega (arith, e, h)
 
 counts-all : {X : Type 0} (n : ℕ) (ts : List (List X)) → length ts ≤ n → length (countsOf n ts) ≡ n
 unfolding countsOf

@@ -13,6 +13,7 @@ use Rattle.decisions.specs.Decisions.{newest}
 use Rattle.entries.specs.declared.Carry.the-variants.{Nothing}
 use Rattle.entries.specs.Carries.{Entry}
 use Rattle.workspace.specs.Workspace.{workspaceOf, Sound, pairsOf, valuesOf, HeldValues, Holds, countsOf}
+use Rattle.workspace.proofs.Values.{roomy-nothing}
 use Rattle.stacks.proofs.Clearing.{counts-pairs}
 use Rattle.advances.specs.Advances.{Stands, Advanced}
 
@@ -50,8 +51,8 @@ sound-bare w p [] h = tt
 sound-bare w p (t ∷ ts) h = (rw (bare-pairs t) (h .0), sound-bare w p ts (h .1))
 
 pub stands-any : {d w p : ℕ} {us : List (List Entry)} {beyond ws counts : List ℕ} (vals vals' : List ℕ) → Stands Nothing d w p us beyond ws vals counts → Stands Nothing d w p us beyond ws vals' counts
-stands-any {p = p} {us = us} vals vals' h = record {
-  holds = record { words = h .holds .words; sound = h .holds .sound; free = h .holds .free; values = held-any p us vals vals' (h .holds .values) };
+stands-any {d} {p = p} {us = us} vals vals' h = record {
+  holds = record { words = h .holds .words; sound = h .holds .sound; free = h .holds .free; values = held-any p us vals vals' (h .holds .values); roomy = roomy-nothing d p vals' };
   tallies = h .tallies;
 }
 
@@ -67,5 +68,6 @@ module _ (d w p : ℕ) (ts : List (List Pair)) (beyond ws counts : List ℕ) whe
         sound = sound-bare w p ts s;
         free = omega (arith, length-map ts bare);
         values = held-bare p ts [];
+        roomy = roomy-nothing d p [];
       } in
       record { holds = h; tallies = k ∙ sym (ap (countsOf depthLimit) (bare-tables ts)) ∙ counts-pairs depthLimit (map bare ts) }

@@ -8,7 +8,7 @@ use Rattle.expression.specs.Limits.{depthLimit}
 use Rattle.rows.specs.Parts.{zeros}
 use Rattle.rows.proofs.Parts.{zeros-append}
 use Rattle.entries.specs.declared.Carry.{Carry}
-use Rattle.workspace.specs.Workspace.{workspaceOf, stackCounts, countsOf}
+use Rattle.workspace.specs.Workspace.{workspaceOf, Roomy, stackCounts, countsOf}
 use Rattle.stacks.specs.Stacks.{cleared}
 use Rattle.stacks.proofs.Clearing.{workspace-none, cleared-holds}
 use Rattle.advances.specs.Advances.{Stands}
@@ -24,9 +24,9 @@ module _ (w p need : ℕ) (ws : List ℕ) (within : (depthLimit + 1) * (p * w) �
       workspace-none (depthLimit + 1) w p behind ∙ sym (append-assoc (zeros k) (zeros (need - k)) (drop need ws))
       ∙ ap (λ (u : List ℕ). u ++ drop need ws) (zeros-append k (need - k) ∙ ap zeros (let z : k + (need - k) ≡ need = omega arith in z))
 
-  pub stands-clear : (carry : Carry) (ws' vals counts : List ℕ) → ws' ≡ cleared need ws → counts ≡ zeros depthLimit → Stands carry (depthLimit + 1) w p [] behind ws' vals counts
+  pub stands-clear : (carry : Carry) (ws' vals counts : List ℕ) → ws' ≡ cleared need ws → counts ≡ zeros depthLimit → Roomy carry (depthLimit + 1) p vals → Stands carry (depthLimit + 1) w p [] behind ws' vals counts
   unfolding countsOf stackCounts
-  stands-clear carry ws' vals counts e f = record { holds = cleared-holds carry (depthLimit + 1) w p behind ws' vals (e ∙ sym areas-clear) (omega arith); tallies = f }
+  stands-clear carry ws' vals counts e f r = record { holds = cleared-holds carry (depthLimit + 1) w p behind ws' vals (e ∙ sym areas-clear) (omega arith) r; tallies = f }
 
   pub all-clear : (ws' : List ℕ) → ws' ≡ workspaceOf (depthLimit + 1) w p [] behind → ws' ≡ cleared need ws
   all-clear ws' e = e ∙ areas-clear

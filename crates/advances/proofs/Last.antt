@@ -35,8 +35,8 @@ module _ {carry : Carry} {w p : ℕ} {us : List (List Entry)} {beyond ws vals co
   first-values : 0 ≡ valuesFrom carry p (t - 1)
   first-values = let z : t - 1 ≡ 0 = omega (arith, one) in sym (ap (λ (i : ℕ). i * inWords carry p) z ∙ omega arith)
 
-  pub last-beside : Beside carry (depthLimit * p) vals → Beside carry n vals
-  last-beside b = omega (arith, b, in-rising carry n (depthLimit * p) (omega (arith, stands-few S 0 n first-area many)))
+  pub last-beside : Beside carry n vals
+  last-beside = omega (arith, h .holds .roomy .room, in-rising carry n p (stands-few S 0 n first-area many))
 
   pub last-entries : entriesAt carry w p 0 n vals ws ≡ newest us
   last-entries = stands-entries S 0 n first-area many 0 first-values

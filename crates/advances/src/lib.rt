@@ -18,7 +18,7 @@ ghost use Rattle.semantics.specs.Expressions.{act};
 ghost use Rattle.semantics.specs.AnswerSets.{Assumptions};
 ghost use Rattle.tables.specs.Algebras.{tables};
 ghost use Rattle.entries.specs.declared.Carry.the-variants.{Nothing};
-ghost use Rattle.entries.specs.Carries.{Entry, Beside, Kept};
+ghost use Rattle.entries.specs.Carries.{Entry};
 ghost use Rattle.leaves.specs.Leaves.{tableAlgebra, atomAt, Resolved, Wide};
 ghost use Rattle.workspace.specs.Workspace.{faultOf};
 ghost use Rattle.operations.specs.Operations.{Meets};
@@ -44,7 +44,6 @@ pub fn advance(
     ws: &mut [u32],
     row: &mut [u32],
     index: &mut [u32],
-    made: &mut [u64],
     vals: &mut [u64],
     counts: &mut [u64],
     kind: Tables,
@@ -57,30 +56,13 @@ pub fn advance(
     atom: Atom,
 ) -> usize
     requires { ⌜ Wide kind w × (w ≤ 4096) × (1 ≤ p) × (p ≤ 1024) × (d ≤ depthLimit + 1) × (length (now row) ≡ w) × (p ≤ length (now index)) ⌝ }
-    requires { ⌜ Kept carry p 0 (now made) × Beside carry ((d - 1) * p) (now vals) × Suits labelCount c × Meets c d t × Resolved carry atom ⌝ }
+    requires { ⌜ Suits labelCount c × Meets c d t × Resolved carry atom ⌝ }
     requires { ⌜ ((ts : List (List Entry)) × (beyond : List ℕ) × Stands carry d w p ts beyond (now ws) (now vals) (now counts) × (length ts ≡ t)) ⌝ }
     ensures { λ r. ⌜ ((o : Assumptions) (a : ℕ) → atom ≡ atomAt carry o a → (ts : List (List Entry)) (beyond : List ℕ) → Stands carry d w p ts beyond (now (ws .entry)) (now (vals .entry)) (now (counts .entry)) → length ts ≡ t → Advanced carry d w p (act (tables (tableAlgebra kind carry) o) a c ts) beyond r (now (ws .entry)) (now (counts .entry)) (now (ws .exit)) (now (vals .exit)) (now (counts .exit))) ⌝ }
-    ensures { λ r. ⌜ (r ≤ p → Kept carry p 0 (now (made .exit))) ⌝ }
 {
     let n = stacks::count_below(&counts[..], t, 1);
     let m = stacks::count_below(&counts[..], t, 2);
-    let r = operations::act(
-        ws,
-        row,
-        index,
-        made,
-        vals,
-        kind,
-        carry,
-        d,
-        w,
-        p,
-        t,
-        n,
-        m,
-        c,
-        atom,
-    );
+    let r = operations::act(ws, row, index, vals, kind, carry, d, w, p, t, n, m, c, atom);
     if r <= p {
         stacks::tally(counts, effect(c), t, r as u64);
     }
@@ -92,7 +74,6 @@ fn advance_in(
     ws: &mut [u32],
     row: &mut [u32],
     index: &mut [u32],
-    made: &mut [u64],
     vals: &mut [u64],
     counts: &mut [u64],
     w: usize,
@@ -109,7 +90,6 @@ fn advance_in(
         ws,
         &mut row[..w],
         index,
-        &mut made[..0],
         vals,
         counts,
         Tables::Pairs,
@@ -139,13 +119,11 @@ pub fn advance_here(
 {
     let mut row = [0u32; 1026];
     let mut index = [0u32; 1024];
-    let mut made = [0u64; 1];
     let mut vals = [0u64; 1];
     advance_in(
         ws,
         &mut row,
         &mut index,
-        &mut made,
         &mut vals,
         counts,
         w,

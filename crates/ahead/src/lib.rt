@@ -11,7 +11,7 @@ ghost use lib.ListN.{length};
 ghost use Rattle.expression.specs.Limits.{depthLimit};
 ghost use Rattle.semantics.specs.Expressions.{changeNewest};
 ghost use Rattle.batches.specs.Batches.{batchLimit, commandsOf};
-ghost use Rattle.entries.specs.Carries.{Entry, Beside, Kept};
+ghost use Rattle.entries.specs.Carries.{Entry};
 ghost use Rattle.maps.specs.Maps.{batchedTable};
 ghost use Rattle.advances.specs.Advances.{Stands};
 ghost use Rattle.ahead.specs.Ahead.{Ahead};
@@ -21,7 +21,6 @@ fn map_ahead(
     ws: &mut [u32],
     row: &mut [u32],
     index: &mut [u32],
-    made: &mut [u64],
     vals: &mut [u64],
     counts: &mut [u64],
     carry: Carry,
@@ -31,13 +30,11 @@ fn map_ahead(
     ops: &[u32],
 )
     requires { ⌜ (2 ≤ w) × (w ≤ 4096) × (p ≤ 1024) × (length (now row) ≡ w) × (p ≤ length (now index)) × (length (now ops) ≤ batchLimit) ⌝ }
-    requires { ⌜ Kept carry p 0 (now made) × Beside carry (depthLimit * p) (now vals) × (1 ≤ t) ⌝ }
-    requires { ⌜ ((ts : List (List Entry)) × (beyond : List ℕ) × Stands carry (depthLimit + 1) w p ts beyond (now ws) (now vals) (now counts) × (length ts ≡ t)) ⌝ }
+    requires { ⌜ (1 ≤ t) × ((ts : List (List Entry)) × (beyond : List ℕ) × Stands carry (depthLimit + 1) w p ts beyond (now ws) (now vals) (now counts) × (length ts ≡ t)) ⌝ }
     ensures { λ _. ⌜ ((ts : List (List Entry)) (beyond : List ℕ) → Stands carry (depthLimit + 1) w p ts beyond (now (ws .entry)) (now (vals .entry)) (now (counts .entry)) → length ts ≡ t → Stands carry (depthLimit + 1) w p (changeNewest (batchedTable carry (commandsOf (now (ops .entry)))) ts) beyond (now (ws .exit)) (now (vals .exit)) (now (counts .exit))) ⌝ }
-    ensures { λ _. ⌜ Kept carry p 0 (now (made .exit)) ⌝ }
 {
     let n = stacks::count_below(&counts[..], t, 1);
-    let r = operations::map_newest(ws, row, index, made, vals, carry, AREAS, w, p, t, n, ops);
+    let r = operations::map_newest(ws, row, index, vals, carry, AREAS, w, p, t, n, ops);
     stacks::tally(counts, Effect::Change, t, r as u64);
 }
 
@@ -51,7 +48,6 @@ pub fn run_ahead(
     ws: &mut [u32],
     row: &mut [u32],
     index: &mut [u32],
-    made: &mut [u64],
     vals: &mut [u64],
     counts: &mut [u64],
     carry: Carry,
@@ -59,10 +55,8 @@ pub fn run_ahead(
     p: usize,
 ) -> Stretch
     requires { ⌜ (2 ≤ w) × (w ≤ 4096) × (p ≤ 1024) × (length (now row) ≡ w) × (p ≤ length (now index)) × (length (now ops) ≤ batchLimit) ⌝ }
-    requires { ⌜ Kept carry p 0 (now made) × Beside carry (depthLimit * p) (now vals) ⌝ }
     requires { ⌜ ((ts : List (List Entry)) × (beyond : List ℕ) × Stands carry (depthLimit + 1) w p ts beyond (now ws) (now vals) (now counts) × (length ts ≡ n .depth)) ⌝ }
     ensures { λ r. ⌜ ((ts : List (List Entry)) (beyond : List ℕ) → Stands carry (depthLimit + 1) w p ts beyond (now (ws .entry)) (now (vals .entry)) (now (counts .entry)) → length ts ≡ n .depth → Ahead carry (depthLimit + 1) w p stop at n (now (s .entry)) ts beyond r (now (ws .exit)) (now (vals .exit)) (now (counts .exit))) ⌝ }
-    ensures { λ _. ⌜ Kept carry p 0 (now (made .exit)) ⌝ }
 {
     if n.depth == 0 {
         return Stretch {
@@ -79,7 +73,6 @@ pub fn run_ahead(
         ws,
         row,
         index,
-        made,
         vals,
         counts,
         carry,

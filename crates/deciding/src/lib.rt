@@ -14,8 +14,8 @@ ghost use Rattle.expression.specs.Limits.{depthLimit};
 ghost use Rattle.expression.specs.Checks.{checkBytes};
 ghost use Rattle.semantics.specs.AnswerSets.{byMasks};
 ghost use Rattle.rows.specs.Parts.{zeros};
-ghost use Rattle.entries.specs.Carries.{Beside, Kept};
 ghost use Rattle.leaves.specs.Leaves.{Wide};
+ghost use Rattle.workspace.specs.Workspace.{Roomy};
 ghost use Rattle.stacks.specs.Stacks.{cleared};
 ghost use Rattle.deciding.specs.Deciding.{valueOutcome, Decides};
 
@@ -35,7 +35,6 @@ pub fn decide(
     ws: &mut [u32],
     row: &mut [u32],
     index: &mut [u32],
-    made: &mut [u64],
     vals: &mut [u64],
     counts: &mut [u64],
     kind: Tables,
@@ -47,7 +46,7 @@ pub fn decide(
     assumed_false: u64,
 ) -> Outcome
     requires { ⌜ Wide kind w × (w ≤ 4096) × (1 ≤ p) × (p ≤ 1024) × (length (now row) ≡ w) × (p ≤ length (now index)) ⌝ }
-    requires { ⌜ Kept carry p 0 (now made) × Beside carry (depthLimit * p) (now vals) × (now counts ≡ zeros depthLimit) ⌝ }
+    requires { ⌜ Roomy carry (depthLimit + 1) p (now vals) × (now counts ≡ zeros depthLimit) ⌝ }
     requires { ⌜ ((z : Counts) × (checkBytes labelCount (now s) ≡ Passed z)) × (need ≤ length (now ws)) × ((depthLimit + 1) * (p * w) ≤ need) ⌝ }
     ensures { λ r. ⌜ Decides kind carry (byMasks «assumed_true» «assumed_false») w p (now (s .entry)) r ⌝ }
     ensures { λ r. ⌜ now (ws .exit) ≡ cleared need (now (ws .entry)) ⌝ }
@@ -59,7 +58,6 @@ pub fn decide(
         ws,
         row,
         index,
-        made,
         vals,
         counts,
         kind,

@@ -13,10 +13,10 @@ ghost use Rattle.expression.specs.Limits.{atomLimit, depthLimit};
 ghost use Rattle.expression.specs.Checks.{checkBytes};
 ghost use Rattle.semantics.specs.AnswerSets.{byMasks};
 ghost use Rattle.rows.specs.Parts.{zeros};
-ghost use Rattle.entries.specs.Carries.{inWords, Beside};
 ghost use Rattle.entries.specs.declared.Carry.the-variants.{Nothing, First};
 ghost use Rattle.leaves.specs.declared.Tables.the-variants.{Plain, Pairs};
 ghost use Rattle.leaves.specs.Leaves.{Wide};
+ghost use Rattle.workspace.specs.Workspace.{valuesFrom};
 ghost use Rattle.stacks.specs.Stacks.{cleared};
 ghost use Rattle.deciding.specs.Deciding.{Decides};
 ghost use Rattle.engine.specs.Engine.{shownOutcome, plainOutcome};
@@ -27,7 +27,6 @@ fn decide_in(
     ws: &mut [u32],
     row: &mut [u32],
     index: &mut [u32],
-    made: &mut [u64],
     vals: &mut [u64],
     counts: &mut [u64],
     kind: Tables,
@@ -39,18 +38,16 @@ fn decide_in(
     assumed_false: u64,
 ) -> Outcome
     requires { ⌜ Wide kind w × (w ≤ 4096) × (1 ≤ p) × (p ≤ 1024) × (w ≤ length (now row)) × (p ≤ length (now index)) ⌝ }
-    requires { ⌜ (now made ≡ zeros (length (now made))) × (inWords carry p ≤ length (now made)) × Beside carry (depthLimit * p) (now vals) × (now counts ≡ zeros depthLimit) ⌝ }
+    requires { ⌜ (now vals ≡ zeros (length (now vals))) × (valuesFrom carry p (depthLimit + 1) ≤ length (now vals)) × (now counts ≡ zeros depthLimit) ⌝ }
     requires { ⌜ ((z : Counts) × (checkBytes labelCount (now s) ≡ Passed z)) × (need ≤ length (now ws)) × ((depthLimit + 1) * (p * w) ≤ need) ⌝ }
     ensures { λ r. ⌜ Decides kind carry (byMasks «assumed_true» «assumed_false») w p (now (s .entry)) r ⌝ }
     ensures { λ r. ⌜ now (ws .exit) ≡ cleared need (now (ws .entry)) ⌝ }
 {
-    let m = entries::words_of(carry, p);
     decide(
         s,
         ws,
         &mut row[..w],
         index,
-        &mut made[..m],
         vals,
         counts,
         kind,
@@ -103,15 +100,13 @@ pub fn decide_pairs(
 {
     let mut row = [0u32; 1026];
     let mut index = [0u32; 1024];
-    let mut made = [0u64; 1024];
-    let mut vals = [0u64; 8192];
+    let mut vals = [0u64; 9216];
     let mut counts = [0u64; 8];
     decide_in(
         s,
         ws,
         &mut row,
         &mut index,
-        &mut made,
         &mut vals,
         &mut counts,
         Tables::Pairs,
@@ -140,7 +135,6 @@ pub fn decide_plain(
 {
     let mut row = [0u32; 2];
     let mut index = [0u32; 1024];
-    let mut made = [0u64; 1];
     let mut vals = [0u64; 1];
     let mut counts = [0u64; 8];
     decide_in(
@@ -148,7 +142,6 @@ pub fn decide_plain(
         ws,
         &mut row,
         &mut index,
-        &mut made,
         &mut vals,
         &mut counts,
         Tables::Plain,

@@ -1,2 +1,3 @@
 pub mod Keeping
 pub mod Entering
+pub mod ValueAreas

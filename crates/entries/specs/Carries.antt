@@ -10,7 +10,7 @@ use Rattle.values.specs.declared.Value.{Value}
 use Rattle.values.specs.Values.{Values, Valued, valued, noValue, inLow, lowWords}
 use Rattle.values.specs.First.{firstWords}
 use Rattle.values.specs.Consequences.{consequences}
-use Rattle.rows.specs.Parts.{zeros}
+use Rattle.rows.specs.Parts.{part, put, zeros}
 use Rattle.entries.specs.declared.Carry.{Carry}
 use Rattle.entries.specs.declared.Carry.the-variants.{Nothing, First, Consequences}
 
@@ -55,6 +55,14 @@ KeptWords p m vals = (vals ≡ take m vals ++ zeros (p - m)) × (length vals ≡
 -- the words of the values of an area of p rows, m of them taken
 abbrev pub Kept : Carry → ℕ → ℕ → List ℕ → Type 0
 Kept carry p m vals = KeptWords (inWords carry p) (inWords carry m) vals
+
+-- the words of the values of an area of p rows, from word o on
+abbrev pub valueArea : Carry → ℕ → ℕ → List ℕ → List ℕ
+valueArea carry p o vals = part o (inWords carry p) vals
+
+-- no other word changed
+abbrev pub OnlyArea : Carry → ℕ → ℕ → List ℕ → List ℕ → Type 0
+OnlyArea carry p o vals vals' = vals' ≡ put o (inWords carry p) vals (valueArea carry p o vals')
 
 -- a row with its value
 abbrev pub Entry : Type 0

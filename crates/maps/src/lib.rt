@@ -6,10 +6,10 @@ ghost use mathlib.Core.List.{[], _∷_, map};
 ghost use Prim.Native.Nat.{_+_, _*_, _≤_};
 ghost use lib.ListN.{length};
 ghost use Rattle.candidates.specs.Candidates.{Readable};
-ghost use Rattle.rows.specs.Parts.{part, zeros};
+ghost use Rattle.rows.specs.Parts.{Apart, part, zeros};
 ghost use Rattle.rows.specs.Rows.{Rows};
 ghost use Rattle.batches.specs.Batches.{batchLimit, commandsOf};
-ghost use Rattle.entries.specs.Carries.{Keeps, Beside, Kept};
+ghost use Rattle.entries.specs.Carries.{Keeps, inWords, valueArea, OnlyArea, Kept};
 ghost use Rattle.making.specs.Making.{Next, Puts, Finished, entriesAt};
 ghost use Rattle.maps.specs.Maps.{batched, worded, wordedAt};
 
@@ -39,63 +39,96 @@ pub fn map_entry(
     making::put_entry(ws, row, index, vals, carry, w, p, to, m, v)
 }
 
-// Each of the n entries at word a, whose values are `old`, mapped and put in. The answer is as map_entry's.
+// Each of the n entries at word a, whose values stand at word `old` of vals, mapped and put in; values are made at word `made`. The answer is as
+// map_entry's.
 pub fn map_all(
     ws: &mut [u32],
     row: &mut [u32],
     index: &mut [u32],
     vals: &mut [u64],
-    old: &[u64],
     carry: Carry,
     w: usize,
     p: usize,
     a: usize,
+    old: usize,
     n: usize,
     to: usize,
+    made: usize,
     code: &[u32],
 ) -> usize
     requires { ⌜ (2 ≤ w) × (w ≤ 4096) × (p ≤ 1024) × (length (now row) ≡ w) ⌝ }
     requires { ⌜ (a + p * w ≤ to) × (to + p * w ≤ length (now ws)) ⌝ }
-    requires { ⌜ Rows w p n (part a (p * w) (now ws)) × Beside carry n (now old) ⌝ }
-    requires { ⌜ Next carry w p to 0 (map (worded (now code)) (entriesAt carry w p a n (now old) (now ws))) (now ws) (now index) (now vals) ⌝ }
-    ensures { λ r. ⌜ Puts carry w p to 0 (map (worded (now (code .entry))) (entriesAt carry w p a n (now (old .entry)) (now (ws .entry)))) r (now (ws .entry)) (now (index .entry)) (now (vals .entry)) (now (ws .exit)) (now (index .exit)) (now (vals .exit)) ⌝ }
+    requires { ⌜ Rows w p n (part a (p * w) (now ws)) × Apart old made (inWords carry p) (length (now vals)) ⌝ }
+    requires { ⌜ Next carry w p to 0 (map (worded (now code)) (entriesAt carry w p a n (valueArea carry p old (now vals)) (now ws))) (now ws) (now index) (valueArea carry p made (now vals)) ⌝ }
+    ensures { λ r. ⌜ Puts carry w p to 0 (map (worded (now (code .entry))) (entriesAt carry w p a n (valueArea carry p old (now (vals .entry))) (now (ws .entry)))) r (now (ws .entry)) (now (index .entry)) (valueArea carry p made (now (vals .entry))) (now (ws .exit)) (now (index .exit)) (valueArea carry p made (now (vals .exit))) ⌝ }
+    ensures { λ _. ⌜ OnlyArea carry p made (now (vals .entry)) (now (vals .exit)) ⌝ }
 {
+    let k = entries::words_of(carry, p);
     let mut r = 0;
     let mut j = 0;
     while j < n {
         let ra = a + j * w;
-        let v = entries::value_at(old, carry, n, j);
-        r = map_entry(ws, row, index, vals, carry, w, p, ra, to, r, v, code);
+        let v = entries::value_at(&vals[old..old + k], carry, n, j);
+        r = map_entry(
+            ws,
+            row,
+            index,
+            &mut vals[made..made + k],
+            carry,
+            w,
+            p,
+            ra,
+            to,
+            r,
+            v,
+            code,
+        );
         j += 1;
     }
     r
 }
 
-// The table at word a, of n rows with the values `old`, becomes what the commands make of it; made in the words from `to` on. It has no more rows than
-// before. The answer is how many, and `vals` holds their values then. code is lent for the words.
+// The table at word a, of n rows, becomes what the commands make of it; made in the words from `to` on. The values of the two stand at words `old` and
+// `made` of vals. It has no more rows than before; the answer is how many. code is lent for the words.
 fn map_fused(
     ws: &mut [u32],
     row: &mut [u32],
     index: &mut [u32],
     vals: &mut [u64],
-    old: &[u64],
     carry: Carry,
     w: usize,
     p: usize,
     a: usize,
+    old: usize,
     n: usize,
     to: usize,
+    made: usize,
     ops: &[u32],
     code: &mut [u32],
 ) -> usize
     requires { ⌜ (2 ≤ w) × (w ≤ 4096) × (p ≤ 1024) × (length (now row) ≡ w) × (length (now ops) ≤ length (now code)) ⌝ }
     requires { ⌜ (a + p * w ≤ to) × (to + p * w ≤ length (now ws)) ⌝ }
-    requires { ⌜ Rows w p n (part a (p * w) (now ws)) × Beside carry n (now old) ⌝ }
-    requires { ⌜ (part to (p * w) (now ws) ≡ zeros (p * w)) × (p ≤ length (now index)) × Kept carry p 0 (now vals) ⌝ }
-    ensures { λ r. ⌜ (r ≤ p) × Finished carry w p a (map (batched (commandsOf (now (ops .entry)))) (entriesAt carry w p a n (now (old .entry)) (now (ws .entry)))) r (now (ws .entry)) (now (ws .entry)) (now (ws .exit)) (now (vals .exit)) ⌝ }
+    requires { ⌜ Rows w p n (part a (p * w) (now ws)) × Apart old made (inWords carry p) (length (now vals)) ⌝ }
+    requires { ⌜ (part to (p * w) (now ws) ≡ zeros (p * w)) × (p ≤ length (now index)) × Kept carry p 0 (valueArea carry p made (now vals)) ⌝ }
+    ensures { λ r. ⌜ (r ≤ p) × Finished carry w p a (map (batched (commandsOf (now (ops .entry)))) (entriesAt carry w p a n (valueArea carry p old (now (vals .entry))) (now (ws .entry)))) r (now (ws .entry)) (now (ws .entry)) (now (ws .exit)) (valueArea carry p made (now (vals .exit))) ⌝ }
+    ensures { λ _. ⌜ OnlyArea carry p made (now (vals .entry)) (now (vals .exit)) ⌝ }
 {
     let m = fusing::fuse(code, ops);
-    let r = map_all(ws, row, index, vals, old, carry, w, p, a, n, to, &code[..m]);
+    let r = map_all(
+        ws,
+        row,
+        index,
+        vals,
+        carry,
+        w,
+        p,
+        a,
+        old,
+        n,
+        to,
+        made,
+        &code[..m],
+    );
     making::settle(ws, row, index, w, p, r, n, a, to);
     r
 }
@@ -106,20 +139,22 @@ pub fn map_table(
     row: &mut [u32],
     index: &mut [u32],
     vals: &mut [u64],
-    old: &[u64],
     carry: Carry,
     w: usize,
     p: usize,
     a: usize,
+    old: usize,
     n: usize,
     to: usize,
+    made: usize,
     ops: &[u32],
 ) -> usize
     requires { ⌜ (2 ≤ w) × (w ≤ 4096) × (p ≤ 1024) × (length (now row) ≡ w) × (length (now ops) ≤ batchLimit) ⌝ }
     requires { ⌜ (a + p * w ≤ to) × (to + p * w ≤ length (now ws)) ⌝ }
-    requires { ⌜ Rows w p n (part a (p * w) (now ws)) × Beside carry n (now old) ⌝ }
-    requires { ⌜ (part to (p * w) (now ws) ≡ zeros (p * w)) × (p ≤ length (now index)) × Kept carry p 0 (now vals) ⌝ }
-    ensures { λ r. ⌜ (r ≤ p) × Finished carry w p a (map (batched (commandsOf (now (ops .entry)))) (entriesAt carry w p a n (now (old .entry)) (now (ws .entry)))) r (now (ws .entry)) (now (ws .entry)) (now (ws .exit)) (now (vals .exit)) ⌝ }
+    requires { ⌜ Rows w p n (part a (p * w) (now ws)) × Apart old made (inWords carry p) (length (now vals)) ⌝ }
+    requires { ⌜ (part to (p * w) (now ws) ≡ zeros (p * w)) × (p ≤ length (now index)) × Kept carry p 0 (valueArea carry p made (now vals)) ⌝ }
+    ensures { λ r. ⌜ (r ≤ p) × Finished carry w p a (map (batched (commandsOf (now (ops .entry)))) (entriesAt carry w p a n (valueArea carry p old (now (vals .entry))) (now (ws .entry)))) r (now (ws .entry)) (now (ws .entry)) (now (ws .exit)) (valueArea carry p made (now (vals .exit))) ⌝ }
+    ensures { λ _. ⌜ OnlyArea carry p made (now (vals .entry)) (now (vals .exit)) ⌝ }
 {
     let mut code = [0u32; batches::BATCH_LIMIT];
     map_fused(
@@ -127,13 +162,14 @@ pub fn map_table(
         row,
         index,
         vals,
-        old,
         carry,
         w,
         p,
         a,
+        old,
         n,
         to,
+        made,
         ops,
         &mut code,
     )

@@ -7,13 +7,14 @@ use lib.ListN.{length, take, drop, length-drop, length-map}
 use lib.Seq.{take-all}
 use Rattle.lists.specs.Lists.{All}
 use Rattle.decisions.specs.Decisions.{newest}
-use Rattle.rows.specs.Parts.{part, zeros}
+use Rattle.rows.specs.Parts.{Apart, part, zeros}
 use Rattle.rows.specs.Rows.{Rows, rowsIn, tableOf}
 use Rattle.entries.specs.declared.Carry.{Carry}
-use Rattle.entries.specs.Carries.{Entry, inWords, valuesIn, Beside}
-use Rattle.entries.proofs.Keeping.{in-row, in-most, in-rising}
+use Rattle.entries.specs.Carries.{Entry, inWords, valuesIn, Kept, valueArea}
+use Rattle.entries.proofs.Keeping.{in-most}
+use Rattle.entries.proofs.ValueAreas.{kept-zeros, area-values}
 use Rattle.making.specs.Making.{entriesAt}
-use Rattle.workspace.specs.Workspace.{Sound, pairsOf, valuesOf, valuesFrom}
+use Rattle.workspace.specs.Workspace.{Sound, pairsOf, valuesOf, valuesFrom, Roomy}
 use Rattle.workspace.proofs.Areas.{workspace-long, area-newest, area-second, area-free, scratch-free}
 use Rattle.rows.proofs.Tables.{row-within}
 use Rattle.workspace.proofs.Acting.{sound-pairs, operand-rows, operand-pairs, operand-entries}
@@ -25,27 +26,21 @@ use Rattle.operands.specs.Operands.{Loaded}
 pub few-words : (carry : Carry) (p : ℕ) → p ≤ 1024 → inWords carry p ≤ 2048
 few-words carry p l = omega (arith, in-most carry p)
 
-from-within : (carry : Carry) (p i : ℕ) (vals : List ℕ) → Beside carry (i * p + p) vals → valuesFrom carry p i ≤ length vals
-from-within carry p i vals h = omega (arith, in-row carry i p)
-
 -- the words from o on
 pub rest-is : (o : ℕ) (xs : List ℕ) → take (length xs - o) (drop o xs) ≡ drop o xs
 rest-is o xs = take-all (length xs - o) (drop o xs) (simp length-drop (omega arith))
 
-module _ (carry : Carry) (d p i : ℕ) (vals : List ℕ) (l : i + 1 < d) (h : Beside carry ((d - 1) * p) vals) where
-  pub beside-room : Beside carry (i * p + p) vals
-  beside-room = omega (arith, h, in-rising carry (i * p + p) ((d - 1) * p) (row-within i (d - 1) p (omega arith)))
+-- the values of table i lie apart from those that are made, in the last of d areas
+pub values-apart : {carry : Carry} {d p : ℕ} {vals : List ℕ} → Roomy carry d p vals → (i : ℕ) → i + 1 < d → (o made : ℕ) → o ≡ valuesFrom carry p i → made ≡ valuesFrom carry p (d - 1)
+    → Apart o made (inWords carry p) (length vals)
+values-apart {carry} {d} {p} h i l o made eo em = record {
+  before = omega (arith, eo, em, row-within i (d - 1) (inWords carry p) (omega arith));
+  within = omega (arith, em, h .room, row-within (d - 1) d (inWords carry p) (omega arith));
+}
 
-  beside-at : (n : ℕ) → n ≤ p → Beside carry n (drop (valuesFrom carry p i) vals)
-  beside-at n g = simp length-drop (omega (arith, beside-room, in-row carry i p, in-rising carry n p g))
-
-  -- where the values of table i begin, there is a word or the end
-  module _ (o : ℕ) (e : o ≡ valuesFrom carry p i) where
-    pub start-within : o ≤ length vals
-    start-within = omega (arith, e, from-within carry p i vals beside-room)
-
-    pub beside-rest : (n : ℕ) → n ≤ p → Beside carry n (take (length vals - o) (drop o vals))
-    beside-rest n g = rw (rest-is o vals, e) (beside-at n g)
+-- none of which is there yet
+pub none-made : {carry : Carry} {d p : ℕ} {vals : List ℕ} → Roomy carry d p vals → (made : ℕ) → made ≡ valuesFrom carry p (d - 1) → Kept carry p 0 (valueArea carry p made vals)
+none-made {carry} {p = p} {vals = vals} h made em = kept-zeros carry p (valueArea carry p made vals) (rw em (h .clear))
 
 -- ---- the words
 
@@ -131,3 +126,6 @@ module _ {carry : Carry} {w p i : ℕ} {x : List Entry} {ws vals : List ℕ} (h 
 
   pub stands-entries : (o : ℕ) → o ≡ valuesFrom carry p i → entriesAt carry w p at n (drop o vals) ws ≡ x
   stands-entries o eo = operand-entries carry w p at n x ws (drop o vals) (h .sound) there many (rw (eo, sym many) (h .values))
+
+  pub stands-area : (o : ℕ) → o ≡ valuesFrom carry p i → entriesAt carry w p at n (valueArea carry p o vals) ws ≡ x
+  stands-area o eo = operand-entries carry w p at n x ws (valueArea carry p o vals) (h .sound) there many (area-values carry p o n vals stands-few ∙ rw (eo, sym many) (h .values))

@@ -1,13 +1,13 @@
 -- The tables that a command acts on, what it leaves of them, and the union of two. Assumes nothing.
 use mathlib.Core.Path.{_≡_}
 use mathlib.Core.List.{List}
-use Prim.Native.Nat.{ℕ, _≤_}
+use Prim.Native.Nat.{ℕ}
 use lib.ListN.{length, drop}
 use Rattle.lists.specs.Lists.{products}
 use Rattle.labels.specs.Labels.{labelCount}
 use Rattle.decisions.specs.Decisions.{newest}
 use Rattle.entries.specs.declared.Carry.{Carry}
-use Rattle.entries.specs.Carries.{Entry, entryAlgebra, Kept}
+use Rattle.entries.specs.Carries.{Entry, entryAlgebra}
 use Rattle.making.specs.Making.{tableOfAll}
 use Rattle.workspace.specs.Workspace.{Holds, Acted}
 
@@ -22,10 +22,9 @@ pub record Loaded (carry : Carry) (d w p t n m : ℕ) (ts : List (List Entry)) (
 abbrev pub Ready : Carry → ℕ → ℕ → ℕ → ℕ → ℕ → ℕ → List ℕ → List ℕ → Type 0
 Ready carry d w p t n m ws vals = (ts : List (List Entry)) × (beyond : List ℕ) × Loaded carry d w p t n m ts beyond ws vals
 
--- whatever stack is held, a command that makes f of it answers r; the words that values are made in are zero again
-abbrev pub Acts : Carry → ℕ → ℕ → ℕ → ℕ → ℕ → ℕ → (List (List Entry) → List (List Entry)) → ℕ → List ℕ → List ℕ → List ℕ → List ℕ → List ℕ → Type 0
-Acts carry d w p t n m f r ws vals ws' vals' made' =
-    ((ts : List (List Entry)) (beyond : List ℕ) → Loaded carry d w p t n m ts beyond ws vals → Acted carry d w p (f ts) beyond r ws ws' vals') × (r ≤ p → Kept carry p 0 made')
+-- whatever stack is held, a command that makes f of it answers r
+abbrev pub Acts : Carry → ℕ → ℕ → ℕ → ℕ → ℕ → ℕ → (List (List Entry) → List (List Entry)) → ℕ → List ℕ → List ℕ → List ℕ → List ℕ → Type 0
+Acts carry d w p t n m f r ws vals ws' vals' = (ts : List (List Entry)) (beyond : List ℕ) → Loaded carry d w p t n m ts beyond ws vals → Acted carry d w p (f ts) beyond r ws ws' vals'
 
 -- the union of two tables
 abbrev pub unitedTable : Carry → List Entry → List Entry → List Entry

@@ -27,9 +27,9 @@ use Rattle.operands.specs.Operands.{Acts, unitedTable}
 use Rattle.operations.specs.Operations.{Meets, pushed, mappedTable}
 
 -- the same stack
-pub acts-as : {carry : Carry} {d w p t n m : ℕ} {f g : List (List Entry) → List (List Entry)} {r : ℕ} {ws vals ws' vals' : List ℕ} (made' : List ℕ) → ((ts : List (List Entry)) → f ts ≡ g ts)
-    → Acts carry d w p t n m f r ws vals ws' vals' made' → Acts carry d w p t n m g r ws vals ws' vals' made'
-acts-as {carry} {d} {w} {p} {r = r} {ws = ws} {ws' = ws'} {vals' = vals'} made' e h = (λ ts beyond l. subst (λ us. Acted carry d w p us beyond r ws ws' vals') (e ts) (h .0 ts beyond l), h .1)
+pub acts-as : {carry : Carry} {d w p t n m : ℕ} {f g : List (List Entry) → List (List Entry)} {r : ℕ} {ws vals ws' vals' : List ℕ} → ((ts : List (List Entry)) → f ts ≡ g ts)
+    → Acts carry d w p t n m f r ws vals ws' vals' → Acts carry d w p t n m g r ws vals ws' vals'
+acts-as {carry} {d} {w} {p} {r = r} {ws = ws} {ws' = ws'} {vals' = vals'} e h = λ ts beyond l. subst (λ us. Acted carry d w p us beyond r ws ws' vals') (e ts) (h ts beyond l)
 
 module _ (kind : Tables) (carry : Carry) (o : Assumptions) (a : ℕ) where
   abbrev act-on : Command → List (List Entry) → List (List Entry)

@@ -1,5 +1,5 @@
 -- The table of a leaf as the newest of a workspace. Assumes nothing.
-use mathlib.Core.Path.{_≡_, sym, ap, ap₂, _∙_}
+use mathlib.Core.Path.{_≡_, refl, sym, ap, ap₂, _∙_, subst}
 use mathlib.Core.Bool.{Bool, true, false, cond}
 use mathlib.Core.List.{List, [], _∷_, map}
 use Prim.Native.Nat.{ℕ, _+_, _-_, _*_, _≤_, _<_}
@@ -10,21 +10,23 @@ use Rattle.lists.specs.Sorted.{compareNumbers, Rising}
 use Rattle.lists.proofs.Members.{all-append}
 use Rattle.tables.specs.Definitions.{subsets, pairs, flat}
 use Rattle.values.specs.Values.{valued}
-use Rattle.rows.specs.Parts.{put}
+use Rattle.rows.specs.Parts.{part, put}
 use Rattle.rows.specs.Rows.{tableOf}
 use Rattle.entries.specs.declared.Carry.{Carry}
-use Rattle.entries.specs.Carries.{Entry, Beside}
+use Rattle.entries.specs.Carries.{Entry, inWords, valueArea, OnlyArea}
+use Rattle.entries.proofs.ValueAreas.{only-start, back-long, back-there, back-only}
 use Rattle.making.specs.Making.{tableOfAll, Finished}
 use Rattle.leaves.specs.declared.Atom.{Atom}
 use Rattle.leaves.specs.declared.Tables.{Tables}
 use Rattle.leaves.specs.declared.Tables.the-variants.{Plain, Pairs}
 use Rattle.leaves.specs.Leaves.{algebraOf, tableAlgebra, presentEntry, absentEntry, leafEntries}
-use Rattle.workspace.specs.Workspace.{pairsOf, valuesFrom, placed, Acted}
+use Rattle.workspace.specs.Workspace.{pairsOf, valuesFrom, Roomy, placed, Acted}
+use Rattle.workspace.proofs.Values.{Moved}
 use Rattle.workspace.proofs.Areas as areas
 use Rattle.workspace.proofs.Acting.{sound-pairs, acted}
 use Rattle.operands.specs.Operands.{Loaded}
 use Rattle.operations.specs.Operations.{pushed}
-use Rattle.operands.proofs.Loads.{beside-room}
+use Rattle.operands.proofs.Loads.{values-apart}
 
 -- an entry whose pair has a triple, and rising subsets
 abbrev Filled : Entry → Type 0
@@ -76,15 +78,37 @@ module _ (carry : Carry) where
 
 -- ---- the table
 
-module _ {carry : Carry} {d w p t n m r : ℕ} {ws ws' vals vals' made : List ℕ} {cands : List Entry} (wide : 2 ≤ w) (free : t + 1 < d) (room : Beside carry ((d - 1) * p) vals)
-    (f : Finished carry w p (t * (p * w)) cands r ws ws ws' made) (filled : All Filled cands) (ordered : All Ordered cands)
-    (moved : r ≤ p → vals' ≡ placed carry (valuesFrom carry p t) r made vals) where
+-- the values come back as ys from the last area, of k words at word o, that was lent for them
+module _ (carry : Carry) (d p t : ℕ) (vals : List ℕ) (free : t + 1 < d) (o k : ℕ) (eo : o ≡ valuesFrom carry p (d - 1)) (ek : k ≡ inWords carry p) (ys : List ℕ)
+    (long : length ys ≡ length (part o (o + k - o) vals)) (roomy : Roomy carry d p vals) where
+  abbrev made : List ℕ
+  made = put o (o + k - o) vals ys
+
+  within : o + inWords carry p ≤ length vals
+  within = values-apart roomy t free (valuesFrom carry p t) o refl eo .within
+
+  pub made-long : length (put o (o + k - o) vals ys) ≡ length vals
+  made-long = back-long carry p o vals vals (only-start carry p o vals) within refl k ek ys long
+
+  made-there : ys ≡ valueArea carry p (valuesFrom carry p (d - 1)) made
+  made-there = sym (back-there carry p o vals vals (only-start carry p o vals) within refl k ek ys long) ∙ ap (λ (j : ℕ). valueArea carry p j made) eo
+
+  made-only : OnlyArea carry p (valuesFrom carry p (d - 1)) vals made
+  made-only = subst (λ (j : ℕ). OnlyArea carry p j vals made) eo (back-only carry p o vals vals (only-start carry p o vals) within refl k ek ys long)
+
+module _ {carry : Carry} {d w p t n m r : ℕ} {ws ws' vals vals' : List ℕ} {cands : List Entry} (wide : 2 ≤ w) (free : t + 1 < d)
+    (o k : ℕ) (eo : o ≡ valuesFrom carry p (d - 1)) (ek : k ≡ inWords carry p) (ys : List ℕ) (long : length ys ≡ length (part o (o + k - o) vals))
+    (f : Finished carry w p (t * (p * w)) cands r ws ws ws' ys) (filled : All Filled cands) (ordered : All Ordered cands)
+    (moved : r ≤ p → vals' ≡ placed carry d p t r (put o (o + k - o) vals ys)) where
   pub pushed-acted : (ts : List (List Entry)) (beyond : List ℕ) → Loaded carry d w p t n m ts beyond ws vals → Acted carry d w p (pushed (tableOfAll carry cands) ts) beyond r ws ws' vals'
   pushed-acted ts beyond h =
       let l = length-map ts pairsOf in
       let here : t * (p * w) ≡ length (map pairsOf ts) * (p * w) = ap (λ (k : ℕ). k * (p * w)) (sym (l ∙ h .tables)) in
-      acted wide f ts beyond vals vals' filled ordered (h .holds .sound) (omega (arith, h .tables)) (h .holds .values)
-      (beside-room carry d p (length ts) vals (omega (arith, h .tables)) room)
+      let R = h .holds .roomy in
+      let M : Moved carry d p t r vals (put o (o + k - o) vals ys) vals' =
+      record { long = made-long carry d p t vals free o k eo ek ys long R; only = made-only carry d p t vals free o k eo ek ys long R; moved = moved } in
+      acted ts (subst (λ (j : ℕ). Moved carry d p j r vals (put o (o + k - o) vals ys) vals') (sym (h .tables)) M) wide
+      (subst (Finished carry w p (t * (p * w)) cands r ws ws ws') (made-there carry d p t vals free o k eo ek ys long R) f) beyond filled ordered
+      (h .holds .sound) (omega (arith, h .tables)) (h .holds .values) R
       (λ s. ap₂ (λ (k : ℕ) (v : List ℕ). put k (p * w) v (tableOf w p (pairsOf (tableOfAll carry cands)))) here (h .holds .words)
       ∙ areas.pushed w p d beyond (map pairsOf ts) (sound-pairs w p ts (h .holds .sound)) (omega (arith, l, h .tables)) (pairsOf (tableOfAll carry cands)))
-      (λ g. moved g ∙ ap (λ (k : ℕ). placed carry (valuesFrom carry p k) r made vals) (sym (h .tables)))

@@ -16,7 +16,6 @@ ghost use Rattle.semantics.specs.Expressions.{act, changeNewest};
 ghost use Rattle.semantics.specs.AnswerSets.{Assumptions};
 ghost use Rattle.tables.specs.Algebras.{tables};
 ghost use Rattle.batches.specs.Batches.{batchLimit, Joins, commandsOf};
-ghost use Rattle.entries.specs.Carries.{Beside, Kept};
 ghost use Rattle.making.specs.Making.{tableOfAll};
 ghost use Rattle.leaves.specs.Leaves.{tableAlgebra, atomAt, Resolved, leafEntries, KeepsBoth, Wide};
 ghost use Rattle.maps.specs.Maps.{batchedTable};
@@ -28,7 +27,6 @@ pub fn map_newest(
     ws: &mut [u32],
     row: &mut [u32],
     index: &mut [u32],
-    made: &mut [u64],
     vals: &mut [u64],
     carry: Carry,
     d: usize,
@@ -39,29 +37,30 @@ pub fn map_newest(
     ops: &[u32],
 ) -> usize
     requires { ⌜ (2 ≤ w) × (w ≤ 4096) × (p ≤ 1024) × (d ≤ depthLimit + 1) × (length (now row) ≡ w) × (p ≤ length (now index)) × (length (now ops) ≤ batchLimit) ⌝ }
-    requires { ⌜ Kept carry p 0 (now made) × Beside carry ((d - 1) * p) (now vals) ⌝ }
     requires { ⌜ (1 ≤ t) × ((m : ℕ) × Ready carry d w p t n m (now ws) (now vals)) ⌝ }
-    ensures { λ r. ⌜ (r ≤ p) × ((m : ℕ) → Acts carry d w p t n m (changeNewest (batchedTable carry (commandsOf (now (ops .entry))))) r (now (ws .entry)) (now (vals .entry)) (now (ws .exit)) (now (vals .exit)) (now (made .exit))) ⌝ }
+    ensures { λ r. ⌜ (r ≤ p) × ((m : ℕ) → Acts carry d w p t n m (changeNewest (batchedTable carry (commandsOf (now (ops .entry))))) r (now (ws .entry)) (now (vals .entry)) (now (ws .exit)) (now (vals .exit))) ⌝ }
 {
     let area = p * w;
     let i = t - 1;
     let a = i * area;
-    let o = values_from(carry, p, i);
+    let old = values_from(carry, p, i);
+    let made = values_from(carry, p, d - 1);
     let r = maps::map_table(
         ws,
         row,
         index,
-        made,
-        &vals[o..],
+        vals,
         carry,
         w,
         p,
         a,
+        old,
         n,
         (d - 1) * area,
+        made,
         ops,
     );
-    workspace::move_values(vals, made, carry, p, i, r);
+    workspace::move_values(vals, carry, d, p, i, r);
     r
 }
 
@@ -70,7 +69,6 @@ fn map_by(
     ws: &mut [u32],
     row: &mut [u32],
     index: &mut [u32],
-    made: &mut [u64],
     vals: &mut [u64],
     carry: Carry,
     d: usize,
@@ -81,13 +79,13 @@ fn map_by(
     c: Command,
 ) -> usize
     requires { ⌜ (2 ≤ w) × (w ≤ 4096) × (p ≤ 1024) × (d ≤ depthLimit + 1) × (length (now row) ≡ w) × (p ≤ length (now index)) ⌝ }
-    requires { ⌜ Kept carry p 0 (now made) × Beside carry ((d - 1) * p) (now vals) × Suits labelCount c × Joins c ⌝ }
+    requires { ⌜ Suits labelCount c × Joins c ⌝ }
     requires { ⌜ (1 ≤ t) × ((m : ℕ) × Ready carry d w p t n m (now ws) (now vals)) ⌝ }
-    ensures { λ r. ⌜ ((m : ℕ) → Acts carry d w p t n m (changeNewest (mappedTable carry c)) r (now (ws .entry)) (now (vals .entry)) (now (ws .exit)) (now (vals .exit)) (now (made .exit))) ⌝ }
+    ensures { λ r. ⌜ ((m : ℕ) → Acts carry d w p t n m (changeNewest (mappedTable carry c)) r (now (ws .entry)) (now (vals .entry)) (now (ws .exit)) (now (vals .exit))) ⌝ }
 {
     let op = batches::word_of(c);
     let ops = [op; 1];
-    map_newest(ws, row, index, made, vals, carry, d, w, p, t, n, &ops)
+    map_newest(ws, row, index, vals, carry, d, w, p, t, n, &ops)
 }
 
 // The table of an atom of label g comes on t tables in d areas.
@@ -95,7 +93,6 @@ fn push_atom(
     ws: &mut [u32],
     row: &mut [u32],
     index: &mut [u32],
-    made: &mut [u64],
     vals: &mut [u64],
     tables: Tables,
     carry: Carry,
@@ -107,16 +104,17 @@ fn push_atom(
     g: u32,
 ) -> usize
     requires { ⌜ Wide tables w × (p ≤ 1024) × (d ≤ depthLimit + 1) × (length (now row) ≡ w) × (p ≤ length (now index)) × (g < labelCount) × KeepsBoth carry atom ⌝ }
-    requires { ⌜ Kept carry p 0 (now made) × Beside carry ((d - 1) * p) (now vals) ⌝ }
     requires { ⌜ (t + 1 < d) × ((n : ℕ) × (m : ℕ) × Ready carry d w p t n m (now ws) (now vals)) ⌝ }
-    ensures { λ r. ⌜ ((n m : ℕ) → Acts carry d w p t n m (pushed (tableOfAll carry (leafEntries tables atom g))) r (now (ws .entry)) (now (vals .entry)) (now (ws .exit)) (now (vals .exit)) (now (made .exit))) ⌝ }
+    ensures { λ r. ⌜ ((n m : ℕ) → Acts carry d w p t n m (pushed (tableOfAll carry (leafEntries tables atom g))) r (now (ws .entry)) (now (vals .entry)) (now (ws .exit)) (now (vals .exit))) ⌝ }
 {
     let area = p * w;
+    let made = values_from(carry, p, d - 1);
+    let k = entries::words_of(carry, p);
     let r = leaf_tables::atom_table(
         ws,
         row,
         index,
-        made,
+        &mut vals[made..made + k],
         tables,
         carry,
         w,
@@ -127,7 +125,7 @@ fn push_atom(
         g,
     );
     if r <= p {
-        workspace::move_values(vals, made, carry, p, t, r);
+        workspace::move_values(vals, carry, d, p, t, r);
     }
     r
 }
@@ -137,7 +135,6 @@ fn push_rule(
     ws: &mut [u32],
     row: &mut [u32],
     index: &mut [u32],
-    made: &mut [u64],
     vals: &mut [u64],
     tables: Tables,
     carry: Carry,
@@ -148,16 +145,17 @@ fn push_rule(
     g: u32,
 ) -> usize
     requires { ⌜ (2 ≤ w) × (1 ≤ p) × (p ≤ 1024) × (d ≤ depthLimit + 1) × (length (now row) ≡ w) × (p ≤ length (now index)) × (g < labelCount) ⌝ }
-    requires { ⌜ Kept carry p 0 (now made) × Beside carry ((d - 1) * p) (now vals) ⌝ }
     requires { ⌜ (t + 1 < d) × ((n : ℕ) × (m : ℕ) × Ready carry d w p t n m (now ws) (now vals)) ⌝ }
-    ensures { λ r. ⌜ ((n m : ℕ) → Acts carry d w p t n m (pushed (tableOfAll carry (tableAlgebra tables carry .unmet g ∷ []))) r (now (ws .entry)) (now (vals .entry)) (now (ws .exit)) (now (vals .exit)) (now (made .exit))) ⌝ }
+    ensures { λ r. ⌜ ((n m : ℕ) → Acts carry d w p t n m (pushed (tableOfAll carry (tableAlgebra tables carry .unmet g ∷ []))) r (now (ws .entry)) (now (vals .entry)) (now (ws .exit)) (now (vals .exit))) ⌝ }
 {
     let area = p * w;
+    let made = values_from(carry, p, d - 1);
+    let k = entries::words_of(carry, p);
     let r = leaf_tables::rule_table(
         ws,
         row,
         index,
-        made,
+        &mut vals[made..made + k],
         tables,
         carry,
         w,
@@ -166,7 +164,7 @@ fn push_rule(
         (d - 1) * area,
         g,
     );
-    workspace::move_values(vals, made, carry, p, t, r);
+    workspace::move_values(vals, carry, d, p, t, r);
     r
 }
 
@@ -176,7 +174,6 @@ pub fn act(
     ws: &mut [u32],
     row: &mut [u32],
     index: &mut [u32],
-    made: &mut [u64],
     vals: &mut [u64],
     kind: Tables,
     carry: Carry,
@@ -190,15 +187,14 @@ pub fn act(
     atom: Atom,
 ) -> usize
     requires { ⌜ Wide kind w × (w ≤ 4096) × (1 ≤ p) × (p ≤ 1024) × (d ≤ depthLimit + 1) × (length (now row) ≡ w) × (p ≤ length (now index)) ⌝ }
-    requires { ⌜ Kept carry p 0 (now made) × Beside carry ((d - 1) * p) (now vals) ⌝ }
     requires { ⌜ Suits labelCount c × Meets c d t × Resolved carry atom × Ready carry d w p t n m (now ws) (now vals) ⌝ }
-    ensures { λ r. ⌜ ((o : Assumptions) (a : ℕ) → atom ≡ atomAt carry o a → Acts carry d w p t n m (act (tables (tableAlgebra kind carry) o) a c) r (now (ws .entry)) (now (vals .entry)) (now (ws .exit)) (now (vals .exit)) (now (made .exit))) ⌝ }
+    ensures { λ r. ⌜ ((o : Assumptions) (a : ℕ) → atom ≡ atomAt carry o a → Acts carry d w p t n m (act (tables (tableAlgebra kind carry) o) a c) r (now (ws .entry)) (now (vals .entry)) (now (ws .exit)) (now (vals .exit))) ⌝ }
 {
     match c {
-        Command::Atom(g) => push_atom(ws, row, index, made, vals, kind, carry, d, w, p, t, atom, g),
-        Command::Rule(g) => push_rule(ws, row, index, made, vals, kind, carry, d, w, p, t, g),
-        Command::Union => unite_newest(ws, row, index, made, vals, carry, d, w, p, t, n, m),
-        Command::Relabel(_, _) => map_by(ws, row, index, made, vals, carry, d, w, p, t, n, c),
-        Command::Connect(_, _, _) => map_by(ws, row, index, made, vals, carry, d, w, p, t, n, c),
+        Command::Atom(g) => push_atom(ws, row, index, vals, kind, carry, d, w, p, t, atom, g),
+        Command::Rule(g) => push_rule(ws, row, index, vals, kind, carry, d, w, p, t, g),
+        Command::Union => unite_newest(ws, row, index, vals, carry, d, w, p, t, n, m),
+        Command::Relabel(_, _) => map_by(ws, row, index, vals, carry, d, w, p, t, n, c),
+        Command::Connect(_, _, _) => map_by(ws, row, index, vals, carry, d, w, p, t, n, c),
     }
 }

@@ -15,7 +15,6 @@ ghost use Rattle.expression.specs.Checks.{checkBytes};
 ghost use Rattle.semantics.specs.AnswerSets.{byMasks};
 ghost use Rattle.rows.specs.Parts.{zeros};
 ghost use Rattle.entries.specs.declared.Carry.the-variants.{Nothing};
-ghost use Rattle.entries.specs.Carries.{Kept};
 ghost use Rattle.leaves.specs.Leaves.{Wide};
 ghost use Rattle.workspace.specs.Workspace.{pairsOf};
 ghost use Rattle.walks.specs.Walks.{walkTo};
@@ -31,7 +30,6 @@ pub fn tabulate(
     out: &mut [u32],
     row: &mut [u32],
     index: &mut [u32],
-    made: &mut [u64],
     vals: &mut [u64],
     counts: &mut [u64],
     kind: Tables,
@@ -42,7 +40,7 @@ pub fn tabulate(
     assumed_false: u64,
 ) -> Report
     requires { ⌜ Wide kind w × (w ≤ 4096) × (1 ≤ p) × (p ≤ 1024) × (length (now row) ≡ w) × (p ≤ length (now index)) ⌝ }
-    requires { ⌜ Kept Nothing p 0 (now made) × (now counts ≡ zeros depthLimit) × (asked < length (now s)) ⌝ }
+    requires { ⌜ (now counts ≡ zeros depthLimit) × (asked < length (now s)) ⌝ }
     requires { ⌜ ((z : Counts) × (checkBytes labelCount (now s) ≡ Passed z)) × (need ≤ length (now ws)) × ((depthLimit + 1) * (p * w) ≤ need) ⌝ }
     ensures { λ r. ⌜ r ≡ reportAnswer (λ x. reportOf kind (pairsOf x)) (length (now (out .entry))) asked (newestIn (walkTo kind Nothing (byMasks «assumed_true» «assumed_false») w p (asked + 1) (now (s .entry)))) ⌝ }
     ensures { λ r. ⌜ now (out .exit) ≡ reportBuffer (λ x. reportOf kind (pairsOf x)) (now (out .entry)) (newestIn (walkTo kind Nothing (byMasks «assumed_true» «assumed_false») w p (asked + 1) (now (s .entry)))) ⌝ }
@@ -55,7 +53,6 @@ pub fn tabulate(
         ws,
         row,
         index,
-        made,
         vals,
         counts,
         kind,

@@ -14,7 +14,7 @@ use Rattle.rows.specs.Rows.{tableOf, Rows}
 use Rattle.rows.proofs.Tables.{row-within, rows-of}
 use Rattle.entries.specs.declared.Carry.{Carry}
 use Rattle.entries.specs.Carries.{Entry}
-use Rattle.workspace.specs.Workspace.{stackWords, workspaceOf, Sound, pairsOf, Holds, stackCounts, countsOf}
+use Rattle.workspace.specs.Workspace.{stackWords, workspaceOf, Sound, pairsOf, Roomy, Holds, stackCounts, countsOf}
 use Rattle.workspace.proofs.Areas.{workspace-long, area-newest, popped}
 use Rattle.workspace.proofs.Acting.{sound-pairs}
 use Rattle.stacks.specs.Stacks.{Counted}
@@ -26,16 +26,14 @@ pub workspace-none : (d w p : ℕ) (beyond : List ℕ) → workspaceOf d w p [] 
 unfolding workspaceOf stackWords
 workspace-none d w p beyond = ap (λ (j : ℕ). zeros (j * (p * w)) ++ beyond) (sub-zero d)
 
-pub cleared-holds : (carry : Carry) (d w p : ℕ) (beyond ws vals : List ℕ) → ws ≡ workspaceOf d w p [] beyond → 0 < d → Holds carry d w p [] beyond ws vals
-cleared-holds carry d w p beyond ws vals e l = record {
+pub cleared-holds : (carry : Carry) (d w p : ℕ) (beyond ws vals : List ℕ) → ws ≡ workspaceOf d w p [] beyond → 0 < d → Roomy carry d p vals → Holds carry d w p [] beyond ws vals
+cleared-holds carry d w p beyond ws vals e l r = record {
   words = e;
   sound = tt;
   free = l;
   values = tt;
+  roomy = r;
 }
-
-pub holds-none : (carry : Carry) (d w p : ℕ) (beyond vals : List ℕ) → 0 < d → Holds carry d w p [] beyond (zeros (d * (p * w)) ++ beyond) vals
-holds-none carry d w p beyond vals l = cleared-holds carry d w p beyond (zeros (d * (p * w)) ++ beyond) vals (sym (workspace-none d w p beyond)) l
 
 -- ---- the stack that is held, by its pairs
 

@@ -28,7 +28,6 @@ fn tabulate_in(
     out: &mut [u32],
     row: &mut [u32],
     index: &mut [u32],
-    made: &mut [u64],
     vals: &mut [u64],
     counts: &mut [u64],
     kind: Tables,
@@ -52,7 +51,6 @@ fn tabulate_in(
         out,
         &mut row[..w],
         index,
-        &mut made[..0],
         vals,
         counts,
         kind,
@@ -85,7 +83,6 @@ pub fn tabulate_here(
 {
     let mut row = [0u32; 1026];
     let mut index = [0u32; 1024];
-    let mut made = [0u64; 1];
     let mut vals = [0u64; 1];
     let mut counts = [0u64; 8];
     tabulate_in(
@@ -95,7 +92,6 @@ pub fn tabulate_here(
         out,
         &mut row,
         &mut index,
-        &mut made,
         &mut vals,
         &mut counts,
         kind,

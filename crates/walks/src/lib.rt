@@ -21,7 +21,6 @@ ghost use Rattle.expression.specs.declared.Checked.the-variants.{Passed};
 ghost use Rattle.expression.specs.Checks.{checkBytes};
 ghost use Rattle.semantics.specs.AnswerSets.{byMasks};
 ghost use Rattle.batches.specs.Batches.{batchLimit};
-ghost use Rattle.entries.specs.Carries.{Beside, Kept};
 ghost use Rattle.leaves.specs.Leaves.{Wide};
 ghost use Rattle.advances.specs.Advances.{Stands};
 ghost use Rattle.walks.specs.Walks.{Reaches};
@@ -40,7 +39,6 @@ fn walk_by(
     ws: &mut [u32],
     row: &mut [u32],
     index: &mut [u32],
-    made: &mut [u64],
     vals: &mut [u64],
     counts: &mut [u64],
     ops: &mut [u32],
@@ -52,7 +50,6 @@ fn walk_by(
     assumed_false: u64,
 ) -> Reached
     requires { ⌜ Wide kind w × (w ≤ 4096) × (1 ≤ p) × (p ≤ 1024) × (length (now row) ≡ w) × (p ≤ length (now index)) × (stop ≤ length (now s)) × (length (now ops) ≤ batchLimit) ⌝ }
-    requires { ⌜ Kept carry p 0 (now made) × Beside carry (depthLimit * p) (now vals) ⌝ }
     requires { ⌜ ((z : Counts) × (checkBytes labelCount (now s) ≡ Passed z)) × ((beyond : List ℕ) × Stands carry (depthLimit + 1) w p [] beyond (now ws) (now vals) (now counts)) ⌝ }
     ensures { λ r. ⌜ ((beyond : List ℕ) → Stands carry (depthLimit + 1) w p [] beyond (now (ws .entry)) (now (vals .entry)) (now (counts .entry)) → Reaches kind carry (byMasks «assumed_true» «assumed_false») (depthLimit + 1) w p stop (now (s .entry)) beyond (now (ws .exit)) (now (vals .exit)) (now (counts .exit)) r) ⌝ }
 {
@@ -68,7 +65,6 @@ fn walk_by(
             ws,
             row,
             index,
-            made,
             vals,
             counts,
             carry,
@@ -88,7 +84,6 @@ fn walk_by(
             ws,
             row,
             index,
-            made,
             vals,
             counts,
             kind,
@@ -116,7 +111,6 @@ pub fn walk(
     ws: &mut [u32],
     row: &mut [u32],
     index: &mut [u32],
-    made: &mut [u64],
     vals: &mut [u64],
     counts: &mut [u64],
     kind: Tables,
@@ -127,7 +121,6 @@ pub fn walk(
     assumed_false: u64,
 ) -> Reached
     requires { ⌜ Wide kind w × (w ≤ 4096) × (1 ≤ p) × (p ≤ 1024) × (length (now row) ≡ w) × (p ≤ length (now index)) × (stop ≤ length (now s)) ⌝ }
-    requires { ⌜ Kept carry p 0 (now made) × Beside carry (depthLimit * p) (now vals) ⌝ }
     requires { ⌜ ((z : Counts) × (checkBytes labelCount (now s) ≡ Passed z)) × ((beyond : List ℕ) × Stands carry (depthLimit + 1) w p [] beyond (now ws) (now vals) (now counts)) ⌝ }
     ensures { λ r. ⌜ ((beyond : List ℕ) → Stands carry (depthLimit + 1) w p [] beyond (now (ws .entry)) (now (vals .entry)) (now (counts .entry)) → Reaches kind carry (byMasks «assumed_true» «assumed_false») (depthLimit + 1) w p stop (now (s .entry)) beyond (now (ws .exit)) (now (vals .exit)) (now (counts .exit)) r) ⌝ }
 {
@@ -138,7 +131,6 @@ pub fn walk(
         ws,
         row,
         index,
-        made,
         vals,
         counts,
         &mut ops,

@@ -13,12 +13,12 @@ use Rattle.rows.specs.Parts.{part, put}
 use Rattle.rows.specs.Rows.{Rows, rowsIn, tableOf}
 use Rattle.rows.proofs.Tables.{rows-of}
 use Rattle.entries.specs.declared.Carry.{Carry}
-use Rattle.entries.specs.Carries.{Entry, valuesIn, Beside, Kept}
+use Rattle.entries.specs.Carries.{Entry, valuesIn, valueArea}
 use Rattle.entries.specs.Entries.{withValues}
 use Rattle.entries.proofs.Keeping.{kept-beside, values-long}
 use Rattle.making.specs.Making.{tableOfAll, Finished, entriesAt}
-use Rattle.workspace.specs.Workspace.{workspaceOf, Sound, pairsOf, valuesOf, valuesFrom, HeldValues, Holds, placed, faultOf, Acted}
-use Rattle.workspace.proofs.Values.{placed-new, values-stay, with-both, values-with}
+use Rattle.workspace.specs.Workspace.{workspaceOf, Sound, pairsOf, valuesOf, valuesFrom, HeldValues, Roomy, Holds, faultOf, Acted}
+use Rattle.workspace.proofs.Values.{Moved, moved-new, moved-below, moved-roomy, with-both, values-with}
 use Rattle.workspace.proofs.Faults.{fault-is, table-sound}
 
 -- all tables of a stack can be kept
@@ -42,30 +42,31 @@ module _ (carry : Carry) (w p at n : ℕ) (t : List Entry) (ws old : List ℕ) (
   operand-entries e = ap₂ withValues operand-pairs e ∙ with-both t
 
 -- the stack with the table that was made of the candidates
-module _ {carry : Carry} {d w p at : ℕ} {cands : List Entry} {r : ℕ} {ws cleared ws' made : List ℕ} (wide : 2 ≤ w) (h : Finished carry w p at cands r ws cleared ws' made)
-    (ts : List (List Entry)) (beyond vals vals' : List ℕ) (filled : All (λ x. 0 < length (x .item)) cands) (ordered : All (λ x. Rising compareNumbers (subsets (x .item))) cands)
-    (sound : All (λ t. Sound w p (pairsOf t)) ts) (free : suc (length ts) < d) (held : HeldValues carry p ts vals) (room : Beside carry (length ts * p + p) vals)
-    (place : Sound w p (pairsOf (tableOfAll carry cands)) → put at (p * w) cleared (tableOf w p (pairsOf (tableOfAll carry cands))) ≡ workspaceOf d w p (map pairsOf (tableOfAll carry cands ∷ ts)) beyond)
-    (moved : r ≤ p → vals' ≡ placed carry (valuesFrom carry p (length ts)) r made vals) where
+module _ {carry : Carry} {d w p at : ℕ} {cands : List Entry} {r : ℕ} {ws cleared ws' vals made vals' : List ℕ} (ts : List (List Entry)) (m : Moved carry d p (length ts) r vals made vals') (wide : 2 ≤ w)
+    (h : Finished carry w p at cands r ws cleared ws' (valueArea carry p (valuesFrom carry p (d - 1)) made)) (beyond : List ℕ) (filled : All (λ x. 0 < length (x .item)) cands) (ordered : All (λ x. Rising compareNumbers (subsets (x .item))) cands)
+    (sound : All (λ t. Sound w p (pairsOf t)) ts) (free : suc (length ts) < d) (held : HeldValues carry p ts vals) (roomy : Roomy carry d p vals)
+    (place : Sound w p (pairsOf (tableOfAll carry cands)) → put at (p * w) cleared (tableOf w p (pairsOf (tableOfAll carry cands))) ≡ workspaceOf d w p (map pairsOf (tableOfAll carry cands ∷ ts)) beyond) where
   abbrev T : List Entry
   T = tableOfAll carry cands
 
-  new-values : r ≤ p → valuesIn carry r made ≡ valuesOf T
+  abbrev new : List ℕ
+  new = valueArea carry p (valuesFrom carry p (d - 1)) made
+
+  new-values : r ≤ p → valuesIn carry r new ≡ valuesOf T
   new-values l =
-      let e = values-long carry r made (kept-beside carry p r made l (h .kept l)) in
-      sym (values-with (pairsOf T) (valuesIn carry r made) (e ∙ sym (length-map T (λ (x : Entry). x .item) ∙ h .count l))) ∙ ap valuesOf (h .values l)
+      let e = values-long carry r new (kept-beside carry p r new l (h .kept l)) in
+      sym (values-with (pairsOf T) (valuesIn carry r new) (e ∙ sym (length-map T (λ (x : Entry). x .item) ∙ h .count l))) ∙ ap valuesOf (h .values l)
 
   holding : r ≤ p → Holds carry d w p (T ∷ ts) beyond ws' vals'
   holding l =
+      let below : length ts + 1 < d = omega arith in
       let s = table-sound wide h l ordered in
       record {
         words = h .table l ∙ place s;
         sound = (s, sound);
         free = free;
-        values = (
-          rw (h .count l, moved l) (placed-new carry p (length ts) r made vals l (h .kept l) room ∙ new-values l),
-          rw (moved l) (values-stay carry w p (length ts) r made vals ts (omega arith) sound room held),
-        );
+        values = (rw (h .count l) (moved-new m roomy below l ∙ new-values l), moved-below m roomy below l w ts (omega arith) sound held);
+        roomy = moved-roomy m roomy below l (h .kept l);
       }
 
   pub acted : Acted carry d w p (T ∷ ts) beyond r ws ws' vals'

@@ -1,4 +1,5 @@
 pub mod Areas
+pub mod Moving
 pub mod Values
 pub mod Faults
 pub mod Acting

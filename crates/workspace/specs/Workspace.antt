@@ -1,20 +1,21 @@
--- A stack of tables in a lent workspace (01, "One command a call"): areas of p rows of w words, the oldest table first; the last area is scratch. Assumes nothing.
+-- A stack of tables in a lent workspace (01, "One command a call"): areas of p rows of w words, the oldest table first; the last area is scratch. Values
+-- stand beside in areas of their own, laid out in the same way. Assumes nothing.
 use mathlib.Core.Path.{_≡_}
 use mathlib.Core.Bool.{cond}
 use mathlib.Core.List.{List, [], _∷_, _++_, map}
 use Prim.Native.Nat.{ℕ, _+_, _-_, _*_, _≤_, _<_}
 use lib.Dec.{ltb}
-use lib.ListN.{length, take, drop}
+use lib.ListN.{length, drop}
 use Rattle.lists.specs.Lists.{All}
 use Rattle.lists.specs.Sorted.{compareNumbers, compareLists, Rising}
 use Rattle.expression.specs.Refusals.{subsetsFull, plansFull}
 use Rattle.tables.specs.Definitions.{Pair, subsets}
 use Rattle.values.specs.declared.Value.{Value}
 use Rattle.decisions.specs.Decisions.{pairsFault, newest}
-use Rattle.rows.specs.Parts.{put, zeros}
+use Rattle.rows.specs.Parts.{part, put, zeros}
 use Rattle.rows.specs.Rows.{Fit, tableOf}
 use Rattle.entries.specs.declared.Carry.{Carry}
-use Rattle.entries.specs.Carries.{Entry, inWords, valuesIn}
+use Rattle.entries.specs.Carries.{Entry, inWords, valuesIn, valueArea}
 
 -- the areas of the tables; the newest is first in the list and last in the words
 unfoldable pub stackWords : ℕ → ℕ → List (List Pair) → List ℕ
@@ -39,7 +40,7 @@ pairsOf t = map (λ x. x .item) t
 abbrev pub valuesOf : List Entry → List Value
 valuesOf t = map (λ x. x .value) t
 
--- where the values of the i-th table begin: each table has the words of p values
+-- where the values of the i-th area begin: each area has the words of p values
 abbrev pub valuesFrom : Carry → ℕ → ℕ → ℕ
 valuesFrom carry p i = i * inWords carry p
 
@@ -48,12 +49,18 @@ abbrev pub HeldValues : Carry → ℕ → List (List Entry) → List ℕ → Typ
 HeldValues carry p [] vals = Unit {0}
 HeldValues carry p (t ∷ ts) vals = (valuesIn carry (length t) (drop (valuesFrom carry p (length ts)) vals) ≡ valuesOf t) × HeldValues carry p ts vals
 
+-- d areas of values fit; the last of them, in which values are made, is zero
+pub record Roomy (carry : Carry) (d p : ℕ) (vals : List ℕ) : Type 0 where
+  pub room : valuesFrom carry p d ≤ length vals
+  pub clear : valueArea carry p (valuesFrom carry p (d - 1)) vals ≡ zeros (inWords carry p)
+
 -- the stack of tables that a workspace of d areas and the words of values hold; one area at least is free
 pub record Holds (carry : Carry) (d w p : ℕ) (ts : List (List Entry)) (beyond ws vals : List ℕ) : Type 0 where
   pub words : ws ≡ workspaceOf d w p (map pairsOf ts) beyond
   pub sound : All (λ t. Sound w p (pairsOf t)) ts
   pub free : length ts < d
   pub values : HeldValues carry p ts vals
+  pub roomy : Roomy carry d p vals
 
 -- how many entries each table has, the oldest first; of k counts the others are 0
 unfoldable pub stackCounts : {X : Type 0} → List (List X) → List ℕ
@@ -63,9 +70,13 @@ stackCounts (t ∷ ts) = stackCounts ts ++ (length t ∷ [])
 unfoldable pub countsOf : {X : Type 0} → ℕ → List (List X) → List ℕ
 countsOf k ts = stackCounts ts ++ zeros (k - length ts)
 
--- the values with r new ones at word o
-abbrev pub placed : Carry → ℕ → ℕ → List ℕ → List ℕ → List ℕ
-placed carry o r new vals = put o (inWords carry r) vals (take (inWords carry r) new)
+-- the n words at word `from` moved to word `to`; zeros stay behind
+abbrev pub movedTo : ℕ → ℕ → ℕ → List ℕ → List ℕ
+movedTo to from n vals = put from n (put to n vals (part from n vals)) (zeros n)
+
+-- the r values that were made, in the last of d areas, moved to area i
+abbrev pub placed : Carry → ℕ → ℕ → ℕ → ℕ → List ℕ → List ℕ
+placed carry d p i r vals = movedTo (valuesFrom carry p i) (valuesFrom carry p (d - 1)) (inWords carry r) vals
 
 -- 15, then 16, or 0, by the count that a command answers: p + 2 where a pair has too many subsets, p + 1 where there are too many pairs
 unfoldable pub faultOf : ℕ → ℕ → ℕ

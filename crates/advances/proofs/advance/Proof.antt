@@ -25,7 +25,7 @@ abbrev standing : (s : tie.Start) → Stands (s .args .carry) (s .args .d) (s .a
 standing s = s .pre .1 .1 .2
 
 abbrev start : tie.After-count-below2 → tie.Start
-start c = c .before .before .before .before .before .before .before .before .before .before
+start c = c .before .before .before .before .before .before .before .before .before
 
 -- any that stands is loaded
 load : (c : tie.After-count-below2) (ts : List (List Entry)) (beyond : List ℕ)
@@ -35,25 +35,25 @@ load c ts beyond h e = loaded h (start c .pre .0 .4) (start c .args .t) e (c .be
 
 count-below-requires : tie.Need-count-below-requires
 count-below-requires c κs =
-    let s = c .before .before .before .before .before .before .before in (omega arith, counts-reach (standing s) (s .pre .0 .4) (s .args .t) (s .pre .1 .1 .3))
+    let s = c .before .before .before .before .before .before in (omega arith, counts-reach (standing s) (s .pre .0 .4) (s .args .t) (s .pre .1 .1 .3))
 
 count-below-requires-2 : tie.Need-count-below-requires-2
 count-below-requires-2 c κs =
-    let s = c .before .before .before .before .before .before .before .before .before in (omega arith, counts-reach (standing s) (s .pre .0 .4) (s .args .t) (s .pre .1 .1 .3))
+    let s = c .before .before .before .before .before .before .before .before in (omega arith, counts-reach (standing s) (s .pre .0 .4) (s .args .t) (s .pre .1 .1 .3))
 
 act-requires : tie.Need-act-requires
 act-requires c κs =
-    let v = c .before .before .before .before .before in
+    let v = c .before .before .before .before in
     let s = start v in
-    (s .pre .0, ((s .pre .1 .0 .0, s .pre .1 .0 .1), (s .pre .1 .0 .2, s .pre .1 .0 .3, s .pre .1 .0 .4, (s .pre .1 .1 .0, s .pre .1 .1 .1, load v (s .pre .1 .1 .0) (s .pre .1 .1 .1) (standing s) (s .pre .1 .1 .3)))))
+    (s .pre .0, (s .pre .1 .0 .0, s .pre .1 .0 .1, s .pre .1 .0 .2, (s .pre .1 .1 .0, s .pre .1 .1 .1, load v (s .pre .1 .1 .0) (s .pre .1 .1 .1) (standing s) (s .pre .1 .1 .3))))
 
 effect-requires : tie.Need-effect-requires
 effect-requires c κs = search needs
 
 tally-requires : tie.Need-tally-requires
 tally-requires c κs =
-    let s = start (c .before .before .before .before .before .before .before .before .before .before .before .before .before .before .before .before .before .before .before) in
-    subst (λ (x : Effect). Applies x (s .args .t) (length (s .args .counts .now))) (sym (c .effect .ensures)) (counts-apply (standing s) (s .pre .0 .4) (s .args .t) (s .pre .1 .1 .3) (s .args .c) (s .pre .1 .0 .3))
+    let s = start (c .before .before .before .before .before .before .before .before .before .before .before .before .before .before .before .before) in
+    subst (λ (x : Effect). Applies x (s .args .t) (length (s .args .counts .now))) (sym (c .effect .ensures)) (counts-apply (standing s) (s .pre .0 .4) (s .args .t) (s .pre .1 .1 .3) (s .args .c) (s .pre .1 .0 .1))
 
 same-length : tie.Need-same-length
 same-length c = search needs
@@ -70,18 +70,17 @@ same-length-4 c = search needs
 same-length-5 : tie.Need-same-length-5
 same-length-5 c = search needs
 
-same-length-6 : tie.Need-same-length-6
-same-length-6 c = search needs
-
 returns : tie.Need-returns
 returns c =
     let y = c .before .before in
-    let u = y .before .before .before .before .before .before .before .before .before .before .before .before .before .before in
-    let v = u .before .before .before .before .before .before in
+    let u = y .before .before .before .before .before .before .before .before .before .before .before .before in
+    let v = u .before .before .before .before .before in
     let s = start v in
-    let R = s .pre .1 .0 .4 in
     let A = tableAlgebra (s .args .kind) (s .args .carry) in
-    (λ o a x ts beyond h e. advanced h (s .pre .0 .4) (s .args .t) e (s .args .c) (s .pre .1 .0 .3) (tables A o) a (u .act .ensures o a x .0 ts beyond (load v ts beyond h e)) (λ l. y .tally .ensures ∙ ap (λ (x : Effect). tallied x (s .args .t) (u .act .result) (s .args .counts .now)) (y .before .effect .ensures)) (λ l. absurd (omega (arith, y .before .before .before .if1 .taken))), u .act .ensures (R .0) (R .1) (R .2) .1)
+    λ o a x ts beyond h e. advanced h (s .pre .0 .4) (s .args .t) e (s .args .c) (s .pre .1 .0 .1) (tables A o) a (u .act .ensures o a x ts beyond (load v ts beyond h e)) (λ l. y .tally .ensures ∙ ap (λ (x : Effect). tallied x (s .args .t) (u .act .result) (s .args .counts .now)) (y .before .effect .ensures)) (λ l. absurd (omega (arith, y .before .before .before .if1 .taken)))
+
+same-length-6 : tie.Need-same-length-6
+same-length-6 c = search needs
 
 same-length-7 : tie.Need-same-length-7
 same-length-7 c = search needs
@@ -95,20 +94,13 @@ same-length-9 c = search needs
 same-length-10 : tie.Need-same-length-10
 same-length-10 c = search needs
 
-same-length-11 : tie.Need-same-length-11
-same-length-11 c = search needs
-
-same-length-12 : tie.Need-same-length-12
-same-length-12 c = search needs
-
 returns-2 : tie.Need-returns-2
 returns-2 c =
-    let u = c .before .before .before .before .before .before .before .before .before .before .before in
-    let v = u .before .before .before .before .before .before in
+    let u = c .before .before .before .before .before .before .before .before .before in
+    let v = u .before .before .before .before .before in
     let s = start v in
-    let R = s .pre .1 .0 .4 in
     let A = tableAlgebra (s .args .kind) (s .args .carry) in
-    (λ o a x ts beyond h e. advanced h (s .pre .0 .4) (s .args .t) e (s .args .c) (s .pre .1 .0 .3) (tables A o) a (u .act .ensures o a x .0 ts beyond (load v ts beyond h e)) (λ l. absurd (omega (arith, c .if1 .left))) (λ l. refl), u .act .ensures (R .0) (R .1) (R .2) .1)
+    λ o a x ts beyond h e. advanced h (s .pre .0 .4) (s .args .t) e (s .args .c) (s .pre .1 .0 .1) (tables A o) a (u .act .ensures o a x ts beyond (load v ts beyond h e)) (λ l. absurd (omega (arith, c .if1 .left))) (λ l. refl)
 
 pub advance-spec : {M : Type 1} → statement M
 advance-spec =
@@ -124,12 +116,10 @@ advance-spec =
     same-length-3
     same-length-4
     same-length-5
-    same-length-6
     returns
+    same-length-6
     same-length-7
     same-length-8
     same-length-9
     same-length-10
-    same-length-11
-    same-length-12
     returns-2)

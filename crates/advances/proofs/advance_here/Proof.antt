@@ -13,12 +13,9 @@ slice-aggregate-advance-in-2 c = search needs
 slice-aggregate-advance-in-3 : tie.Need-slice-aggregate-advance-in-3
 slice-aggregate-advance-in-3 c = search needs
 
-slice-aggregate-advance-in-4 : tie.Need-slice-aggregate-advance-in-4
-slice-aggregate-advance-in-4 c = search needs
-
 advance-in-requires : tie.Need-advance-in-requires
 advance-in-requires c κs =
-    let s = c .before .before .before .before .before .before .before .before in
+    let s = c .before .before .before .before .before .before .before in
     ((s .pre .0 .0, s .pre .0 .1, s .pre .0 .2, s .pre .0 .3, s .pre .0 .1, s .pre .0 .3), s .pre .1)
 
 same-length : tie.Need-same-length
@@ -37,7 +34,6 @@ advance-here-spec =
     slice-aggregate-advance-in
     slice-aggregate-advance-in-2
     slice-aggregate-advance-in-3
-    slice-aggregate-advance-in-4
     advance-in-requires
     same-length
     same-length-2

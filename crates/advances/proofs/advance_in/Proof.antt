@@ -12,19 +12,13 @@ slice-relend-prefix-advance : tie.Need-slice-relend-prefix-advance
 slice-relend-prefix-advance c = search needs
 
 slice-aggregate-advance : tie.Need-slice-aggregate-advance
-slice-aggregate-advance c = let s = c .before .before .before .before .before .before .before .before in sym (length-take-le (s .args .w) (s .args .row .now) (s .pre .0 .4))
-
-slice-relend-prefix-advance-2 : tie.Need-slice-relend-prefix-advance-2
-slice-relend-prefix-advance-2 c = search needs
-
-slice-aggregate-advance-2 : tie.Need-slice-aggregate-advance-2
-slice-aggregate-advance-2 c = search needs
+slice-aggregate-advance c = let s = c .before .before .before .before .before .before .before in sym (length-take-le (s .args .w) (s .args .row .now) (s .pre .0 .4))
 
 advance-requires : tie.Need-advance-requires
 advance-requires c κs =
-    let s = c .before .before .before .before .before .before .before .before .before .before .before .before in
+    let s = c .before .before .before .before .before .before .before .before .before .before in
     let q = s .pre in
-    ((q .0 .0, omega (arith, q .0 .1), q .0 .2, q .0 .3, omega arith, length-take-le (s .args .w) (s .args .row .now) (q .0 .4), q .0 .5), (((refl, refl), omega arith, q .1 .0, q .1 .1, q .1 .2), (q .1 .3 .0, q .1 .3 .1, stands-any _ _ (q .1 .3 .2), q .1 .3 .3)))
+    ((q .0 .0, omega (arith, q .0 .1), q .0 .2, q .0 .3, omega arith, length-take-le (s .args .w) (s .args .row .now) (q .0 .4), q .0 .5), ((q .1 .0, q .1 .1, q .1 .2), (q .1 .3 .0, q .1 .3 .1, stands-any _ _ (q .1 .3 .2), q .1 .3 .3)))
 
 same-length : tie.Need-same-length
 same-length c = search needs
@@ -41,13 +35,10 @@ same-length-4 c = search needs
 same-length-5 : tie.Need-same-length-5
 same-length-5 c = search needs
 
-same-length-6 : tie.Need-same-length-6
-same-length-6 c = search needs
-
 returns : tie.Need-returns
 returns c =
-    let v = c .before .before .before .before .before .before .before .before .before .before .before .before in
-    λ o a x ts beyond h e. advanced-any _ _ (v .advance .ensures .0 o a x ts beyond (stands-any _ _ h) e)
+    let v = c .before .before .before .before .before .before .before .before .before .before in
+    λ o a x ts beyond h e. advanced-any _ _ (v .advance .ensures o a x ts beyond (stands-any _ _ h) e)
 
 pub advance-in-spec : {M : Type 1} → statement M
 advance-in-spec =
@@ -55,13 +46,10 @@ advance-in-spec =
     (tie.spec
     slice-relend-prefix-advance
     slice-aggregate-advance
-    slice-relend-prefix-advance-2
-    slice-aggregate-advance-2
     advance-requires
     same-length
     same-length-2
     same-length-3
     same-length-4
     same-length-5
-    same-length-6
     returns)

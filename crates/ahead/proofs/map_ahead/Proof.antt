@@ -22,7 +22,7 @@ abbrev standing : (s : tie.Start) → Stands (s .args .carry) (depthLimit + 1) (
 standing s = s .pre .1 .1 .2
 
 abbrev start : tie.After-count-below → tie.Start
-start c = c .before .before .before .before .before .before .before .before .before
+start c = c .before .before .before .before .before .before .before .before
 
 -- how many entries the table below the newest has
 abbrev below : tie.After-count-below → ℕ
@@ -35,18 +35,18 @@ load : (c : tie.After-count-below) (ts : List (List Entry)) (beyond : List ℕ)
 load c ts beyond h e = loaded h (omega arith) (start c .args .t) e (c .count-below .result) (below c) (c .count-below .ensures) refl
 
 count-below-requires : tie.Need-count-below-requires
-count-below-requires c κs = let s = c .before .before .before .before .before .before .before .before in (omega arith, counts-reach (standing s) (omega arith) (s .args .t) (s .pre .1 .1 .3))
+count-below-requires c κs = let s = c .before .before .before .before .before .before .before in (omega arith, counts-reach (standing s) (omega arith) (s .args .t) (s .pre .1 .1 .3))
 
 map-newest-requires : tie.Need-map-newest-requires
 map-newest-requires c κs =
-    let v = c .before .before .before .before .before in
+    let v = c .before .before .before .before in
     let s = start v in
-    ((s .pre .0 .0, s .pre .0 .1, s .pre .0 .2, omega arith, s .pre .0 .3, s .pre .0 .4, s .pre .0 .5), ((s .pre .1 .0 .0, s .pre .1 .0 .1), (s .pre .1 .0 .2, (below v, (s .pre .1 .1 .0, s .pre .1 .1 .1, load v (s .pre .1 .1 .0) (s .pre .1 .1 .1) (standing s) (s .pre .1 .1 .3))))))
+    ((s .pre .0 .0, s .pre .0 .1, s .pre .0 .2, omega arith, s .pre .0 .3, s .pre .0 .4, s .pre .0 .5), (s .pre .1 .0, (below v, (s .pre .1 .1 .0, s .pre .1 .1 .1, load v (s .pre .1 .1 .0) (s .pre .1 .1 .1) (standing s) (s .pre .1 .1 .3)))))
 
 tally-requires : tie.Need-tally-requires
 tally-requires c κs =
-    let s = start (c .before .before .before .before .before .before .before .before .before .before .before .before .before .before .before .before .before) in
-    let reach = counts-reach (standing s) (omega arith) (s .args .t) (s .pre .1 .1 .3) in (s .pre .1 .0 .2, reach, reach)
+    let s = start (c .before .before .before .before .before .before .before .before .before .before .before .before .before .before) in
+    let reach = counts-reach (standing s) (omega arith) (s .args .t) (s .pre .1 .1 .3) in (s .pre .1 .0, reach, reach)
 
 same-length : tie.Need-same-length
 same-length c = search needs
@@ -63,16 +63,13 @@ same-length-4 c = search needs
 same-length-5 : tie.Need-same-length-5
 same-length-5 c = search needs
 
-same-length-6 : tie.Need-same-length-6
-same-length-6 c = search needs
-
 returns : tie.Need-returns
 returns c =
     let y = c .before .before in
-    let u = y .before .before .before .before .before .before .before .before .before .before .before .before in
-    let v = u .before .before .before .before .before .before in
+    let u = y .before .before .before .before .before .before .before .before .before .before in
+    let v = u .before .before .before .before .before in
     let s = start v in
-    (λ ts beyond h e. changed-stands h e (s .pre .1 .0 .2) (omega (arith, h .holds .free, e)) (batchedTable (s .args .carry) (commandsOf (s .args .ops .now))) (u .map-newest .ensures .1 (below v) .0 ts beyond (load v ts beyond h e)) (u .map-newest .ensures .0) (y .tally .ensures), u .map-newest .ensures .1 (below v) .1 (u .map-newest .ensures .0))
+    λ ts beyond h e. changed-stands h e (s .pre .1 .0) (omega (arith, h .holds .free, e)) (batchedTable (s .args .carry) (commandsOf (s .args .ops .now))) (u .map-newest .ensures .1 (below v) ts beyond (load v ts beyond h e)) (u .map-newest .ensures .0) (y .tally .ensures)
 
 pub map-ahead-spec : {M : Type 1} → statement M
 map-ahead-spec =
@@ -86,5 +83,4 @@ map-ahead-spec =
     same-length-3
     same-length-4
     same-length-5
-    same-length-6
     returns)

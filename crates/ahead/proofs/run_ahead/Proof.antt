@@ -22,12 +22,12 @@ use Rattle.ahead.proofs.run_ahead.Statement.{statement}
 use Rattle.ahead.proofs.run_ahead.Tie as tie
 
 abbrev start : tie.After-struct-known → tie.Start
-start c = c .before .before .before .before .before .before .before .before .before
+start c = c .before .before .before .before .before .before .before .before
 
 -- values are words
 small : (c : tie.After-struct-known) (ts : List (List Entry)) (beyond : List ℕ) → Stands (start c .args .carry) (depthLimit + 1) (start c .args .w) (start c .args .p) ts beyond (start c .args .ws .now) (start c .args .vals .now) (start c .args .counts .now)
     → All (Small (start c .args .carry)) (newest ts)
-small c ts beyond h = small-newest (start c .args .carry) (start c .args .p) ts (start c .args .vals .now) (λ i. c .before .before .slice-known6 .given i .fits) (h .holds .values)
+small c ts beyond h = small-newest (start c .args .carry) (start c .args .p) ts (start c .args .vals .now) (λ i. c .before .before .slice-known5 .given i .fits) (h .holds .values)
 
 -- the words that were read, and their commands
 module _ (u : tie.After-read-stretch) where
@@ -45,7 +45,7 @@ module _ (u : tie.After-read-stretch) where
   there = omega (arith, u .before .before .if1 .left)
 
 returns : tie.Need-returns
-returns c = let s = start (c .before) in (λ ts beyond h e. none-done [] (chain-none labelCount (s .args .s .now) (s .args .stop) (s .args .at)) (counts-none (s .args .n)) (small (c .before) ts beyond h) refl h, s .pre .1 .0 .0)
+returns c = let s = start (c .before) in λ ts beyond h e. none-done [] (chain-none labelCount (s .args .s .now) (s .args .stop) (s .args .at)) (counts-none (s .args .n)) (small (c .before) ts beyond h) refl h
 
 read-stretch-requires : tie.Need-read-stretch-requires
 read-stretch-requires c κs = search needs
@@ -56,16 +56,16 @@ same-length c = search needs
 returns-2 : tie.Need-returns-2
 returns-2 c =
     let u = c .before .before .before .before in
-    (λ ts beyond h e. none-done (done u) (u .read-stretch .ensures .1) (u .read-stretch .ensures .2) (small (first u) ts beyond h) (no-words (words u) _ (c .if2 .taken)) h, start (first u) .pre .1 .0 .0)
+    λ ts beyond h e. none-done (done u) (u .read-stretch .ensures .1) (u .read-stretch .ensures .2) (small (first u) ts beyond h) (no-words (words u) _ (c .if2 .taken)) h
 
 slice-reshare-prefix-map-ahead : tie.Need-slice-reshare-prefix-map-ahead
 slice-reshare-prefix-map-ahead c = search needs
 
 slice-aggregate-map-ahead : tie.Need-slice-aggregate-map-ahead
-slice-aggregate-map-ahead c = let u = c .before .before .before .before .before .before .before .before .before .before .before in sym (length-take-le _ (words u) (u .read-stretch .ensures .0))
+slice-aggregate-map-ahead c = let u = c .before .before .before .before .before .before .before .before .before .before in sym (length-take-le _ (words u) (u .read-stretch .ensures .0))
 
 map-ahead-requires : tie.Need-map-ahead-requires
-map-ahead-requires c κs = let u = c .before .before .before .before .before .before .before .before .before .before .before in let s = start (first u) in ((s .pre .0 .0, s .pre .0 .1, s .pre .0 .2, s .pre .0 .3, s .pre .0 .4, omega (arith, length-take-le _ (words u) (u .read-stretch .ensures .0), u .read-stretch .ensures .0, u .read-stretch .kept .1 .1 .1 .1 .0, s .pre .0 .5)), ((s .pre .1 .0 .0, s .pre .1 .0 .1, there u), s .pre .1 .1))
+map-ahead-requires c κs = let u = c .before .before .before .before .before .before .before .before .before .before in let s = start (first u) in ((s .pre .0 .0, s .pre .0 .1, s .pre .0 .2, s .pre .0 .3, s .pre .0 .4, omega (arith, length-take-le _ (words u) (u .read-stretch .ensures .0), u .read-stretch .ensures .0, u .read-stretch .kept .1 .1 .1 .1 .0, s .pre .0 .5)), (there u, s .pre .1))
 
 same-length-2 : tie.Need-same-length-2
 same-length-2 c = search needs
@@ -85,14 +85,11 @@ same-length-6 c = search needs
 same-length-7 : tie.Need-same-length-7
 same-length-7 c = search needs
 
-same-length-8 : tie.Need-same-length-8
-same-length-8 c = search needs
-
 returns-3 : tie.Need-returns-3
 returns-3 c =
-    let m = c .before .before .before .before .before .before .before .before .before .before .before .before in
-    let u = m .before .before .before .before .before .before .before .before .before .before .before .before in
-    (λ ts beyond h e. some-done (done u) (u .read-stretch .ensures .1) (u .read-stretch .ensures .2) (small (first u) ts beyond h) (some-words (words u) _ (u .read-stretch .ensures .0) (m .before .before .before .before .before .before .before .before .if2 .left)) (omega (arith, there u, e)) (m .map-ahead .ensures .0 ts beyond h e), m .map-ahead .ensures .1)
+    let m = c .before .before .before .before .before .before .before .before .before .before in
+    let u = m .before .before .before .before .before .before .before .before .before .before .before in
+    λ ts beyond h e. some-done (done u) (u .read-stretch .ensures .1) (u .read-stretch .ensures .2) (small (first u) ts beyond h) (some-words (words u) _ (u .read-stretch .ensures .0) (m .before .before .before .before .before .before .before .if2 .left)) (omega (arith, there u, e)) (m .map-ahead .ensures ts beyond h e)
 
 pub run-ahead-spec : {M : Type 1} → statement M
 run-ahead-spec =
@@ -111,5 +108,4 @@ run-ahead-spec =
     same-length-5
     same-length-6
     same-length-7
-    same-length-8
     returns-3)

@@ -14,7 +14,7 @@ use Rattle.walks.specs.declared.Reached.{Reached}
 use Rattle.walks.specs.declared.Reached.the-variants.{Through}
 use Rattle.advances.specs.Advances.{Stands}
 use Rattle.walks.specs.Walks.{Reaches}
-use Rattle.advances.proofs.Advancing.{beside-as, counts-reach}
+use Rattle.advances.proofs.Advancing.{counts-reach}
 use Rattle.deciding.specs.Deciding.{Decides}
 use Rattle.answers.specs.Answers.{leastOf}
 use Rattle.advances.proofs.Clear.{behind, stands-clear, all-clear}
@@ -33,7 +33,7 @@ use Rattle.stacks.proofs.count_below.Reads as count-below-reads
 use Rattle.walks.proofs.walk.Reads as walk-reads
 
 abbrev start : tie.After-clear-need → tie.Start
-start c = c .before .before .before .before .before .before .before .before .before
+start c = c .before .before .before .before .before .before .before .before
 
 -- no table stands in the cleared words
 module _ (c : tie.After-clear-need) where
@@ -43,17 +43,17 @@ module _ (c : tie.After-clear-need) where
   none : Stands (start c .args .carry) (depthLimit + 1) (start c .args .w) (start c .args .p) [] back (c .clear-need .last .0) (start c .args .vals .now) (start c .args .counts .now)
   none =
       let s = start c in
-      stands-clear (s .args .w) (s .args .p) (s .args .need) (s .args .ws .now) (s .pre .1 .1 .2) (s .args .carry) (c .clear-need .last .0) (s .args .vals .now) (s .args .counts .now) (c .clear-need .ensures) (s .pre .1 .0 .2)
+      stands-clear (s .args .w) (s .args .p) (s .args .need) (s .args .ws .now) (s .pre .1 .1 .2) (s .args .carry) (c .clear-need .last .0) (s .args .vals .now) (s .args .counts .now) (c .clear-need .ensures) (s .pre .1 .0 .1) (s .pre .1 .0 .0)
 
 abbrev origin : tie.After-walk → tie.After-clear-need
-origin u = u .before .before .before .before .before .before .before .before .before
+origin u = u .before .before .before .before .before .before .before .before
 
 -- what the walk reached, by its variant
 module _ (u : tie.After-walk) where
   abbrev Reach : Reached → Type 0
   Reach r =
       let s = start (origin u) in
-      Reaches (s .args .kind) (s .args .carry) (byMasks (s .args .assumed-true) (s .args .assumed-false)) (depthLimit + 1) (s .args .w) (s .args .p) (length (s .args .s .now)) (s .args .s .now) (back (origin u)) (u .walk .last .1 .1 .0) (u .walk .last .1 .1 .1 .1 .1 .1 .0) (u .walk .last .1 .1 .1 .1 .1 .1 .1 .0) r
+      Reaches (s .args .kind) (s .args .carry) (byMasks (s .args .assumed-true) (s .args .assumed-false)) (depthLimit + 1) (s .args .w) (s .args .p) (length (s .args .s .now)) (s .args .s .now) (back (origin u)) (u .walk .last .1 .1 .0) (u .walk .last .1 .1 .1 .1 .1 .0) (u .walk .last .1 .1 .1 .1 .1 .1 .0) r
 
   reach : Reach (u .walk .result)
   reach = u .walk .ensures (back (origin u)) (none (origin u))
@@ -63,7 +63,7 @@ module _ (u : tie.After-walk) where
 
 -- where it came through
 abbrev walked-by : tie.After-r2 → tie.After-walk
-walked-by e = e .before .before .before .before .before .before .before .before .before .before .before .before .before .before
+walked-by e = e .before .before .before .before .before .before .before .before .before .before .before .before
 
 through : (e : tie.After-r2) → Reach (walked-by e) (Through (e .r2 .given .0 .0))
 through e = subst (Reach (walked-by e)) (e .r2 .given .1) (reach (walked-by e))
@@ -73,9 +73,9 @@ clear-need-requires c κs = search needs
 
 walk-requires : tie.Need-walk-requires
 walk-requires c κs =
-    let n = c .before .before .before .before .before .before .before .before in
+    let n = c .before .before .before .before .before .before .before in
     let s = start n in
-    ((s .pre .0 .0, s .pre .0 .1, s .pre .0 .2, s .pre .0 .3, s .pre .0 .4, s .pre .0 .5, omega arith), ((s .pre .1 .0 .0, s .pre .1 .0 .1), (s .pre .1 .1 .0, (back n, none n))))
+    ((s .pre .0 .0, s .pre .0 .1, s .pre .0 .2, s .pre .0 .3, s .pre .0 .4, s .pre .0 .5, omega arith), (s .pre .1 .1 .0, (back n, none n)))
 
 enum-known-r : tie.Need-enum-known-r
 enum-known-r c = search needs
@@ -83,7 +83,7 @@ enum-known-r c = search needs
 clear-tables-requires : tie.Need-clear-tables-requires
 clear-tables-requires c κs =
     let e = c .before .before .before in
-    let u = e .before .before .before .before .before .before .before .before .before .before .before .before .before .before in
+    let u = e .before .before .before .before .before .before .before .before .before .before .before .before in
     let s = start (origin u) in
     let R = subst (Reach u) (e .r .given .1) (reach u) in
     (wide-two (s .args .kind) (s .args .w) (s .pre .0 .0), (depthLimit + 1, R .1 .0, back (origin u), R .1 .1))
@@ -103,7 +103,7 @@ least-accepting-requires c κs =
     let R = through e in
     let n = c .before .before .count-below in
     let t = e .r2 .given .0 .0 in
-    (omega (arith, s .pre .1 .1 .1, s .pre .1 .1 .2, long u), last-rows (R .2) t (R .3) (R .4 refl) (n .result) (n .ensures), last-beside (R .2) t (R .3) (R .4 refl) (n .result) (n .ensures) (beside-as (s .args .carry) (depthLimit * s .args .p) (s .args .vals .now) (u .walk .last .1 .1 .1 .1 .1 .1 .0) (u .walk .kept .1 .1 .1 .1 .1 .1 .0) (s .pre .1 .0 .1)))
+    (omega (arith, s .pre .1 .1 .1, s .pre .1 .1 .2, long u), last-rows (R .2) t (R .3) (R .4 refl) (n .result) (n .ensures), last-beside (R .2) t (R .3) (R .4 refl) (n .result) (n .ensures))
 
 clear-tables-requires-2 : tie.Need-clear-tables-requires-2
 clear-tables-requires-2 c κs =
@@ -130,21 +130,21 @@ same-length-4 c = search needs
 same-length-5 : tie.Need-same-length-5
 same-length-5 c = search needs
 
-same-length-6 : tie.Need-same-length-6
-same-length-6 c = search needs
-
 returns : tie.Need-returns
 returns c =
     let d = c .before .before in
     let e = c .before .before .before .before .before .before in
-    let u = e .before .before .before .before .before .before .before .before .before .before .before .before .before .before in
+    let u = e .before .before .before .before .before .before .before .before .before .before .before .before in
     let s = start (origin u) in
     let R = subst (Reach u) (e .r .given .1) (reach u) in
     (R .0, all-clear (s .args .w) (s .args .p) (s .args .need) (s .args .ws .now) (s .pre .1 .1 .2) _ (d .clear-tables .ensures (depthLimit + 1) (R .1 .0) (back (origin u)) (R .1 .1)))
 
-same-length-7 : tie.Need-same-length-7
-same-length-7 c =
+same-length-6 : tie.Need-same-length-6
+same-length-6 c =
     let u = walked-by (c .before .before .before .before .before .before .before .before .before .before .before .before) in c .before .before .before .clear-tables2 .kept .0 ∙ long u
+
+same-length-7 : tie.Need-same-length-7
+same-length-7 c = search needs
 
 same-length-8 : tie.Need-same-length-8
 same-length-8 c = search needs
@@ -154,12 +154,6 @@ same-length-9 c = search needs
 
 same-length-10 : tie.Need-same-length-10
 same-length-10 c = search needs
-
-same-length-11 : tie.Need-same-length-11
-same-length-11 c = search needs
-
-same-length-12 : tie.Need-same-length-12
-same-length-12 c = search needs
 
 returns-2 : tie.Need-returns-2
 returns-2 c =
@@ -192,12 +186,10 @@ decide-spec =
     same-length-3
     same-length-4
     same-length-5
-    same-length-6
     returns
+    same-length-6
     same-length-7
     same-length-8
     same-length-9
     same-length-10
-    same-length-11
-    same-length-12
     returns-2)

@@ -1,7 +1,9 @@
 -- `engine::decide_in`: the front of each array is lent.
 use mathlib.Core.Path.{sym}
 use lib.Seq.{length-take-le}
-use Rattle.engine.proofs.Arrays.{kept-none}
+use Prim.Native.Nat.{_+_}
+use Rattle.expression.specs.Limits.{depthLimit}
+use Rattle.engine.proofs.Arrays.{roomy-zeros}
 use borrow.Author.Needs.{needs}
 use native.Mathlib.Omega.{arith}
 use borrow.Author.Needs.{needs}
@@ -9,28 +11,17 @@ use Rattle.engine.proofs.decide_in.Statement.{statement}
 use Rattle.engine.proofs.decide_in.Tie as tie
 use Rattle.deciding.proofs.decide.Reads as decide-reads
 
-words-of-requires : tie.Need-words-of-requires
-words-of-requires c κs = search needs
-
 slice-relend-prefix-decide : tie.Need-slice-relend-prefix-decide
 slice-relend-prefix-decide c = search needs
 
 slice-aggregate-decide : tie.Need-slice-aggregate-decide
 slice-aggregate-decide c =
-    let s = c .before .before .before .before .before .before .before .before .before .before in sym (length-take-le (s .args .w) (s .args .row .now) (s .pre .0 .4))
-
-slice-relend-prefix-decide-2 : tie.Need-slice-relend-prefix-decide-2
-slice-relend-prefix-decide-2 c = search needs
-
-slice-aggregate-decide-2 : tie.Need-slice-aggregate-decide-2
-slice-aggregate-decide-2 c =
-    let s = c .before .before .before .before .before .before .before .before .before .before .before .before in sym (length-take-le _ (s .args .made .now) (omega (arith, c .before .before .before .before .words-of .ensures, s .pre .1 .0 .1)))
+    let s = c .before .before .before .before .before .before .before .before in sym (length-take-le (s .args .w) (s .args .row .now) (s .pre .0 .4))
 
 decide-requires : tie.Need-decide-requires
 decide-requires c κs =
-    let s = c .before .before .before .before .before .before .before .before .before .before .before .before .before .before in
-    let v = c .before .before .before .before .before .before .words-of in
-    ((s .pre .0 .0, s .pre .0 .1, s .pre .0 .2, s .pre .0 .3, length-take-le (s .args .w) (s .args .row .now) (s .pre .0 .4), s .pre .0 .5), ((kept-none (s .args .carry) (s .args .p) (v .result) (s .args .made .now) (s .pre .1 .0 .0) (s .pre .1 .0 .1) (v .ensures), s .pre .1 .0 .2, s .pre .1 .0 .3), s .pre .1 .1))
+    let s = c .before .before .before .before .before .before .before .before .before .before .before in
+    ((s .pre .0 .0, s .pre .0 .1, s .pre .0 .2, s .pre .0 .3, length-take-le (s .args .w) (s .args .row .now) (s .pre .0 .4), s .pre .0 .5), ((roomy-zeros (s .args .carry) (depthLimit + 1) (s .args .p) (s .args .vals .now) (omega arith) (s .pre .1 .0 .0) (s .pre .1 .0 .1), s .pre .1 .0 .2), s .pre .1 .1))
 
 same-length : tie.Need-same-length
 same-length c = search needs
@@ -47,9 +38,6 @@ same-length-4 c = search needs
 same-length-5 : tie.Need-same-length-5
 same-length-5 c = search needs
 
-same-length-6 : tie.Need-same-length-6
-same-length-6 c = search needs
-
 returns : tie.Need-returns
 returns c = search needs
 
@@ -57,16 +45,12 @@ pub decide-in-spec : {M : Type 1} → statement M
 decide-in-spec =
     tie.close
     (tie.spec
-    words-of-requires
     slice-relend-prefix-decide
     slice-aggregate-decide
-    slice-relend-prefix-decide-2
-    slice-aggregate-decide-2
     decide-requires
     same-length
     same-length-2
     same-length-3
     same-length-4
     same-length-5
-    same-length-6
     returns)

@@ -19,13 +19,10 @@ slice-aggregate-decide-in-3 c = search needs
 slice-aggregate-decide-in-4 : tie.Need-slice-aggregate-decide-in-4
 slice-aggregate-decide-in-4 c = search needs
 
-slice-aggregate-decide-in-5 : tie.Need-slice-aggregate-decide-in-5
-slice-aggregate-decide-in-5 c = search needs
-
 decide-in-requires : tie.Need-decide-in-requires
 decide-in-requires c κs =
-    let s = c .before .before .before .before .before .before .before .before in
-    ((s .pre .0 .0, omega (arith, s .pre .0 .1), s .pre .0 .2, s .pre .0 .3, s .pre .0 .1, s .pre .0 .3), ((refl, s .pre .0 .3, omega (arith, s .pre .0 .3), refl), s .pre .1))
+    let s = c .before .before .before .before .before .before .before in
+    ((s .pre .0 .0, omega (arith, s .pre .0 .1), s .pre .0 .2, s .pre .0 .3, s .pre .0 .1, s .pre .0 .3), ((refl, omega (arith, s .pre .0 .3), refl), s .pre .1))
 
 same-length : tie.Need-same-length
 same-length c = search needs
@@ -41,7 +38,6 @@ decide-pairs-spec =
     slice-aggregate-decide-in-2
     slice-aggregate-decide-in-3
     slice-aggregate-decide-in-4
-    slice-aggregate-decide-in-5
     decide-in-requires
     same-length
     returns)

@@ -19,13 +19,10 @@ slice-aggregate-decide-in-3 c = search needs
 slice-aggregate-decide-in-4 : tie.Need-slice-aggregate-decide-in-4
 slice-aggregate-decide-in-4 c = search needs
 
-slice-aggregate-decide-in-5 : tie.Need-slice-aggregate-decide-in-5
-slice-aggregate-decide-in-5 c = search needs
-
 decide-in-requires : tie.Need-decide-in-requires
 decide-in-requires c κs =
-    let s = c .before .before .before .before .before .before .before .before in
-    ((omega arith, omega arith, s .pre .0 .0, s .pre .0 .1, omega arith, s .pre .0 .1), ((refl, omega arith, omega arith, refl), s .pre .1))
+    let s = c .before .before .before .before .before .before .before in
+    ((omega arith, omega arith, s .pre .0 .0, s .pre .0 .1, omega arith, s .pre .0 .1), ((refl, omega arith, refl), s .pre .1))
 
 same-length : tie.Need-same-length
 same-length c = search needs
@@ -41,7 +38,6 @@ decide-plain-spec =
     slice-aggregate-decide-in-2
     slice-aggregate-decide-in-3
     slice-aggregate-decide-in-4
-    slice-aggregate-decide-in-5
     decide-in-requires
     same-length
     returns)

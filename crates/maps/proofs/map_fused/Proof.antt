@@ -7,7 +7,8 @@ use lib.Seq.{length-take-le}
 use Rattle.labels.specs.Labels.{labelCount}
 use Rattle.rows.specs.Rows.{Rows}
 use Rattle.batches.specs.Batches.{commandsOf, wordsPair}
-use Rattle.entries.specs.Carries.{Entry}
+use Rattle.entries.specs.Carries.{Entry, valueArea}
+use Rattle.entries.proofs.ValueAreas.{area-beside}
 use Rattle.making.specs.Making.{Making, Stepped, Finished, entriesAt}
 use Rattle.making.proofs.Stepping.{stepped}
 use Rattle.making.proofs.Settling.{begin, finished, stepped-below, stepped-indexed}
@@ -20,14 +21,18 @@ use native.Mathlib.Omega.{arith}
 
 module _ (f : tie.After-fuse) where
   abbrev start : tie.Start
-  start = f .before .before .before .before .before .before .before .before .before
+  start = f .before .before .before .before .before .before .before .before
+
+  -- the words of the values of an area
+  abbrev values : ℕ → List ℕ
+  values o = valueArea (start .args .carry) (start .args .p) o (start .args .vals .now)
 
   -- the words
   abbrev words : List ℕ
   words = take (f .fuse .result) (f .fuse .last .0)
 
   abbrev those : List Entry
-  those = entriesAt (start .args .carry) (start .args .w) (start .args .p) (start .args .a) (start .args .n) (start .args .old .now) (start .args .ws .now)
+  those = entriesAt (start .args .carry) (start .args .w) (start .args .p) (start .args .a) (start .args .n) (values (start .args .old)) (start .args .ws .now)
 
   abbrev cands : List Entry
   cands = map (worded words) those
@@ -37,9 +42,9 @@ module _ (f : tie.After-fuse) where
   same = worded-is words (start .args .ops .now) (f .fuse .ensures .1) those
 
   -- none of them is in yet
-  begins : Making (start .args .carry) (start .args .w) (start .args .p) (start .args .to) cands (cands ++ []) 0 (start .args .ws .now) (start .args .ws .now) (start .args .index .now) (start .args .vals .now)
+  begins : Making (start .args .carry) (start .args .w) (start .args .p) (start .args .to) cands (cands ++ []) 0 (start .args .ws .now) (start .args .ws .now) (start .args .index .now) (values (start .args .made))
   begins =
-      begin (start .args .carry) (start .args .w) (start .args .p) (start .args .to) cands (start .args .ws .now) (start .args .index .now) (start .args .vals .now) (start .pre .1 .1 .1 .0) (start .pre .1 .1 .1 .1) (start .pre .1 .1 .1 .2)
+      begin (start .args .carry) (start .args .w) (start .args .p) (start .args .to) cands (start .args .ws .now) (start .args .index .now) (values (start .args .made)) (start .pre .1 .1 .1 .0) (start .pre .1 .1 .1 .1) (start .pre .1 .1 .1 .2)
 
 module _ (u : tie.After-map-all) where
   abbrev f : tie.After-fuse
@@ -49,10 +54,10 @@ module _ (u : tie.After-map-all) where
   s = start f
 
   -- all of them are in
-  made : Making (s .args .carry) (s .args .w) (s .args .p) (s .args .to) (cands f) [] (u .map-all .result) (s .args .ws .now) (u .map-all .last .0) (u .map-all .last .1 .1 .0) (u .map-all .last .1 .1 .1 .0)
-  made = u .map-all .ensures (cands f) [] (s .args .ws .now) (begins f)
+  made : Making (s .args .carry) (s .args .w) (s .args .p) (s .args .to) (cands f) [] (u .map-all .result) (s .args .ws .now) (u .map-all .last .0) (u .map-all .last .1 .1 .0) (valueArea (s .args .carry) (s .args .p) (s .args .made) (u .map-all .last .1 .1 .1 .0))
+  made = u .map-all .ensures .0 (cands f) [] (s .args .ws .now) (begins f)
 
-  all-in : Stepped (s .args .carry) (s .args .w) (s .args .p) (s .args .to) (cands f) [] (cands f) (u .map-all .result) (s .args .ws .now) (u .map-all .last .0) (u .map-all .last .1 .1 .0) (u .map-all .last .1 .1 .1 .0)
+  all-in : Stepped (s .args .carry) (s .args .w) (s .args .p) (s .args .to) (cands f) [] (cands f) (u .map-all .result) (s .args .ws .now) (u .map-all .last .0) (u .map-all .last .1 .1 .0) (valueArea (s .args .carry) (s .args .p) (s .args .made) (u .map-all .last .1 .1 .1 .0))
   all-in = stepped (s .pre .0 .0) made
 
 fuse-requires : tie.Need-fuse-requires
@@ -102,8 +107,9 @@ returns c =
     let k = c .before .before .before .before in
     let u = k .before .before .before .before .before .before .before .before .before .before .before .before in
     let s = start (f u) in
-    let few = few-mapped (s .args .carry) (s .args .w) (s .args .p) (s .args .a) (s .args .n) (s .args .old .now) (s .args .ws .now) (omega (arith, s .pre .1 .0 .0, s .pre .1 .0 .1)) (s .pre .1 .1 .0 .0) (s .pre .1 .1 .0 .1) (wordsPair labelCount (words (f u))) in
-    (not-over (made u) few, subst (λ (xs : List Entry). Finished (s .args .carry) (s .args .w) (s .args .p) (s .args .a) xs (u .map-all .result) (s .args .ws .now) (s .args .ws .now) (k .settle .last .0) (u .map-all .last .1 .1 .1 .0)) (same (f u)) (finished (s .pre .1 .0 .0) (s .pre .1 .0 .1) (s .pre .1 .1 .1 .0) (all-in u) (k .settle .ensures)))
+    let beside = area-beside (s .args .carry) (s .args .p) (s .args .old) (s .args .n) (s .args .vals .now) (s .pre .1 .1 .0 .0 .room) (omega (arith, s .pre .1 .1 .0 .1 .before, s .pre .1 .1 .0 .1 .within)) in
+    let few = few-mapped (s .args .carry) (s .args .w) (s .args .p) (s .args .a) (s .args .n) (values (f u) (s .args .old)) (s .args .ws .now) (omega (arith, s .pre .1 .0 .0, s .pre .1 .0 .1)) (s .pre .1 .1 .0 .0) beside (wordsPair labelCount (words (f u))) in
+    ((not-over (made u) few, subst (λ (xs : List Entry). Finished (s .args .carry) (s .args .w) (s .args .p) (s .args .a) xs (u .map-all .result) (s .args .ws .now) (s .args .ws .now) (k .settle .last .0) (valueArea (s .args .carry) (s .args .p) (s .args .made) (u .map-all .last .1 .1 .1 .0))) (same (f u)) (finished (s .pre .1 .0 .0) (s .pre .1 .0 .1) (s .pre .1 .1 .1 .0) (all-in u) (k .settle .ensures))), u .map-all .ensures .1)
 
 pub map-fused-spec : {M : Type 1} → statement M
 map-fused-spec =

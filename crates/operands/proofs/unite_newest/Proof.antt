@@ -3,12 +3,13 @@ use mathlib.Core.Path.{_≡_, refl, ap, _∙_}
 use mathlib.Core.List.{List}
 use Prim.Native.Nat.{ℕ, _+_, _-_, _*_, _≤_, _<_}
 use lib.ListN.{length}
-use Rattle.entries.specs.Carries.{Entry}
+use Rattle.entries.specs.Carries.{Entry, inWords}
 use Rattle.semantics.specs.Expressions.{uniteNewest}
+use Rattle.rows.specs.Parts.{Apart}
 use Rattle.rows.proofs.Tables.{row-within}
 use Rattle.workspace.specs.Workspace.{valuesFrom, placed, Acted}
 use Rattle.operands.specs.Operands.{Loaded, unitedTable}
-use Rattle.operands.proofs.Loads.{rest-is, beside-room, start-within, beside-rest, below, inside, area-behind, scratch-zero, newer-stands, older-stands, stands-rows, stands-few}
+use Rattle.operands.proofs.Loads.{values-apart, none-made, below, inside, area-behind, scratch-zero, newer-stands, older-stands, stands-rows}
 use Rattle.operands.proofs.Uniting.{united-acted}
 use borrow.Author.Needs.{needs}
 use native.Mathlib.Omega.{arith}
@@ -21,8 +22,8 @@ use Rattle.workspace.proofs.move_values.Reads as move-values-reads
 
 -- ---- what the workspace gives
 
-abbrev held : (s : tie.Start) → Loaded (s .args .carry) (s .args .d) (s .args .w) (s .args .p) (s .args .t) (s .args .n) (s .args .m) (s .pre .1 .1 .1 .0) (s .pre .1 .1 .1 .1) (s .args .ws .now) (s .args .vals .now)
-held s = s .pre .1 .1 .1 .2
+abbrev held : (s : tie.Start) → Loaded (s .args .carry) (s .args .d) (s .args .w) (s .args .p) (s .args .t) (s .args .n) (s .args .m) (s .pre .1 .1 .0) (s .pre .1 .1 .1) (s .args .ws .now) (s .args .vals .now)
+held s = s .pre .1 .1 .2
 
 module _ (s : tie.Start) where
   abbrev k : ℕ
@@ -32,60 +33,66 @@ module _ (s : tie.Start) where
   i = s .args .t - 2
 
   deep : i + 1 < s .args .d - 1
-  deep = omega (arith, below (held s), s .pre .1 .1 .0)
+  deep = omega (arith, below (held s), s .pre .1 .0)
 
   one : k ≤ length (s .args .ws .now)
   one = omega (arith, inside (held s) 0 (omega (arith, deep)))
 
   -- the newer table begins where the older one ends
   behind : i * k + k ≡ (s .args .t - 1) * k
-  behind = area-behind (held s) i (s .args .t - 1) (omega (arith, s .pre .1 .1 .0))
+  behind = area-behind (held s) i (s .args .t - 1) (omega (arith, s .pre .1 .0))
 
-abbrev start : tie.After-values-from2 → tie.Start
-start c = c .before .before .before .before .before .before .before .before
+abbrev start : tie.After-values-from3 → tie.Start
+start c = c .before .before .before .before .before .before .before
 
-abbrev left : tie.After-values-from2 → ℕ
-left c = c .before .values-from .result
+-- ---- where the values stand
 
-abbrev right : tie.After-values-from2 → ℕ
-right c = c .values-from2 .result
+module _ (c : tie.After-values-from3) where
+  abbrev s : tie.Start
+  s = start c
 
-is-left : (c : tie.After-values-from2) → left c ≡ valuesFrom (start c .args .carry) (start c .args .p) (i (start c))
-is-left c = c .before .values-from .ensures
+  abbrev left : ℕ
+  left = c .before .before .values-from .result
 
-is-right : (c : tie.After-values-from2) → right c ≡ valuesFrom (start c .args .carry) (start c .args .p) (start c .args .t - 1)
-is-right c = c .values-from2 .ensures ∙ ap (valuesFrom (start c .args .carry) (start c .args .p)) (let z : i (start c) + 1 ≡ start c .args .t - 1 = omega (arith, start c .pre .1 .1 .0) in z)
+  abbrev right : ℕ
+  right = c .before .values-from2 .result
 
-left-within : (c : tie.After-values-from2) → left c ≤ length (start c .args .vals .now)
-left-within c = let s = start c in start-within (s .args .carry) (s .args .d) (s .args .p) (i s) (s .args .vals .now) (omega (arith, deep s)) (s .pre .1 .0 .1) (left c) (is-left c)
+  abbrev made : ℕ
+  made = c .values-from3 .result
 
-right-within : (c : tie.After-values-from2) → right c ≤ length (start c .args .vals .now)
-right-within c = let s = start c in start-within (s .args .carry) (s .args .d) (s .args .p) (s .args .t - 1) (s .args .vals .now) (omega (arith, deep s)) (s .pre .1 .0 .1) (right c) (is-right c)
+  is-right : right ≡ valuesFrom (s .args .carry) (s .args .p) (s .args .t - 1)
+  is-right = c .before .values-from2 .ensures ∙ ap (valuesFrom (s .args .carry) (s .args .p)) (let z : i s + 1 ≡ s .args .t - 1 = omega (arith, s .pre .1 .0) in z)
+
+  left-apart : Apart left made (inWords (s .args .carry) (s .args .p)) (length (s .args .vals .now))
+  left-apart = values-apart (held s .holds .roomy) (i s) (omega (arith, deep s)) left made (c .before .before .values-from .ensures) (c .values-from3 .ensures)
+
+  right-apart : Apart right made (inWords (s .args .carry) (s .args .p)) (length (s .args .vals .now))
+  right-apart = values-apart (held s .holds .roomy) (s .args .t - 1) (omega (arith, deep s)) right made is-right (c .values-from3 .ensures)
 
 -- ---- what the union leaves
 
-abbrev origin : tie.After-unite-tables → tie.After-values-from2
-origin u = u .before .before .before .before .before .before .before
+abbrev origin : tie.After-unite-tables → tie.After-values-from3
+origin u = u .before .before .before .before .before
 
 done : (u : tie.After-unite-tables) {vals' : List ℕ}
-    → (u .unite-tables .result ≤ start (origin u) .args .p → vals' ≡ placed (start (origin u) .args .carry) (valuesFrom (start (origin u) .args .carry) (start (origin u) .args .p) (i (start (origin u)))) (u .unite-tables .result) (u .unite-tables .last .1 .1 .1 .0) (start (origin u) .args .vals .now))
+    → (u .unite-tables .result ≤ start (origin u) .args .p → vals' ≡ placed (start (origin u) .args .carry) (start (origin u) .args .d) (start (origin u) .args .p) (i (start (origin u))) (u .unite-tables .result) (u .unite-tables .last .1 .1 .1 .0))
     → (ts : List (List Entry)) (beyond : List ℕ) → Loaded (start (origin u) .args .carry) (start (origin u) .args .d) (start (origin u) .args .w) (start (origin u) .args .p) (start (origin u) .args .t) (start (origin u) .args .n) (start (origin u) .args .m) ts beyond (start (origin u) .args .ws .now) (start (origin u) .args .vals .now)
     → Acted (start (origin u) .args .carry) (start (origin u) .args .d) (start (origin u) .args .w) (start (origin u) .args .p) (uniteNewest (unitedTable (start (origin u) .args .carry)) ts) beyond (u .unite-tables .result) (start (origin u) .args .ws .now) (u .unite-tables .last .0) vals'
 done u moved ts beyond h =
     let v = origin u in
     let s = start v in
-    united-acted (s .pre .0 .0) (s .pre .1 .1 .0) (s .pre .1 .0 .1) (i s * k s) (i s * k s + k s) (left v) (right v) refl (behind s) (is-left v) (is-right v)
-    (rw (rest-is (left v) (s .args .vals .now), rest-is (right v) (s .args .vals .now)) at (u .unite-tables .ensures)) moved ts h
+    let E = rw (v .values-from3 .ensures) at (u .unite-tables .ensures) in
+    united-acted (record { long = u .unite-tables .kept .1 .1 .1 .0; only = E .1; moved = moved }) (s .pre .0 .0) (s .pre .1 .0) (i s * k s) (i s * k s + k s) (left v) (right v) refl (behind s) (v .before .before .values-from .ensures) (is-right v) (E .0) ts h
 
 mul-area : tie.Need-mul-area
-mul-area c = let s = c .before .before .before .before .before in omega (arith, one s)
+mul-area c = let s = c .before .before .before .before in omega (arith, one s)
 
 sub-i : tie.Need-sub-i
 sub-i c = search needs
 
 mul-a : tie.Need-mul-a
 mul-a c =
-    let s = c .before .before .before .before .before in omega (arith, inside (held s) (i s) (omega (arith, deep s)))
+    let s = c .before .before .before .before in omega (arith, inside (held s) (i s) (omega (arith, deep s)))
 
 values-from-requires : tie.Need-values-from-requires
 values-from-requires c κs = search needs
@@ -96,63 +103,45 @@ add-values-from c = search needs
 values-from-requires-2 : tie.Need-values-from-requires-2
 values-from-requires-2 c κs = search needs
 
-mul-unite-tables : tie.Need-mul-unite-tables
-mul-unite-tables c = omega (arith, left-within (c .before .before .before .before))
+sub-values-from : tie.Need-sub-values-from
+sub-values-from c = search needs
 
-sub-unite-tables : tie.Need-sub-unite-tables
-sub-unite-tables c = omega (arith, left-within (c .before .before .before .before))
-
-part-unite-tables-start : tie.Need-part-unite-tables-start
-part-unite-tables-start c = omega (arith, left-within (c .before .before .before .before))
-
-part-unite-tables-end : tie.Need-part-unite-tables-end
-part-unite-tables-end c = search needs
-
-mul-unite-tables-2 : tie.Need-mul-unite-tables-2
-mul-unite-tables-2 c = omega (arith, right-within (c .before .before .before .before .before))
-
-sub-unite-tables-2 : tie.Need-sub-unite-tables-2
-sub-unite-tables-2 c = omega (arith, right-within (c .before .before .before .before .before))
-
-part-unite-tables-start-2 : tie.Need-part-unite-tables-start-2
-part-unite-tables-start-2 c = omega (arith, right-within (c .before .before .before .before .before))
-
-part-unite-tables-end-2 : tie.Need-part-unite-tables-end-2
-part-unite-tables-end-2 c = search needs
+values-from-requires-3 : tie.Need-values-from-requires-3
+values-from-requires-3 c κs = search needs
 
 add-unite-tables : tie.Need-add-unite-tables
 add-unite-tables c =
-    let s = start (c .before .before .before .before .before .before) in omega (arith, inside (held s) (i s) (omega (arith, deep s)))
+    let s = start (c .before .before .before .before) in omega (arith, inside (held s) (i s) (omega (arith, deep s)))
 
-sub-unite-tables-3 : tie.Need-sub-unite-tables-3
-sub-unite-tables-3 c = search needs
+sub-unite-tables : tie.Need-sub-unite-tables
+sub-unite-tables c = search needs
 
-mul-unite-tables-3 : tie.Need-mul-unite-tables-3
-mul-unite-tables-3 c =
-    let s = start (c .before .before .before .before .before .before) in omega (arith, inside (held s) (s .args .d - 1) (omega (arith, deep s)))
+mul-unite-tables : tie.Need-mul-unite-tables
+mul-unite-tables c =
+    let s = start (c .before .before .before .before) in omega (arith, inside (held s) (s .args .d - 1) (omega (arith, deep s)))
 
 unite-tables-requires : tie.Need-unite-tables-requires
 unite-tables-requires c κs =
-    let v = c .before .before .before .before .before .before in
+    let v = c .before .before .before .before in
     let s = start v in
-    let A = older-stands (s .pre .1 .1 .1 .0) (held s) (s .pre .1 .1 .0) in
-    let B = newer-stands (s .pre .1 .1 .1 .0) (held s) (omega (arith, s .pre .1 .1 .0)) in (
+    let A = older-stands (s .pre .1 .1 .0) (held s) (s .pre .1 .0) in
+    let B = newer-stands (s .pre .1 .1 .0) (held s) (omega (arith, s .pre .1 .0)) in (
       (s .pre .0 .0, s .pre .0 .1, s .pre .0 .2, s .pre .0 .4),
       (
         (omega arith, omega (arith, behind s, row-within (s .args .t - 1) (s .args .d - 1) (k s) (omega (arith, deep s))), omega (arith, inside (held s) (s .args .d - 1) (omega (arith, deep s)))),
         (
-          (stands-rows A (i s * k s) (s .args .m) refl (held s .older), stands-rows B (i s * k s + k s) (s .args .n) (behind s) (held s .newer), beside-rest (s .args .carry) (s .args .d) (s .args .p) (i s) (s .args .vals .now) (omega (arith, deep s)) (s .pre .1 .0 .1) (left v) (is-left v) (s .args .m) (stands-few A (i s * k s) (s .args .m) refl (held s .older)), beside-rest (s .args .carry) (s .args .d) (s .args .p) (s .args .t - 1) (s .args .vals .now) (omega (arith, deep s)) (s .pre .1 .0 .1) (right v) (is-right v) (s .args .n) (stands-few B (i s * k s + k s) (s .args .n) (behind s) (held s .newer))),
-          (scratch-zero (held s), s .pre .0 .5, s .pre .1 .0 .0),
+          (stands-rows A (i s * k s) (s .args .m) refl (held s .older), stands-rows B (i s * k s + k s) (s .args .n) (behind s) (held s .newer), left-apart v, right-apart v),
+          (scratch-zero (held s), s .pre .0 .5, none-made (held s .holds .roomy) (made v) (v .values-from3 .ensures)),
         ),
       ),
     )
 
 move-values-requires : tie.Need-move-values-requires
 move-values-requires c κs =
-    let g = c .before .before in
+    let g = c .before in
     let u = g .before .before .before .before .before .before .before .before .before in
     let s = start (origin u) in
-    (u .unite-tables .ensures .kept (omega (arith, g .if1 .taken)), beside-room (s .args .carry) (s .args .d) (s .args .p) (i s) (s .args .vals .now) (omega (arith, deep s)) (s .pre .1 .0 .1), omega (arith, g .if1 .taken))
+    (omega (arith, g .if1 .taken), omega (arith, deep s), omega (arith, held s .holds .roomy .room, u .unite-tables .kept .1 .1 .1 .0))
 
 same-length : tie.Need-same-length
 same-length c = search needs
@@ -166,15 +155,13 @@ same-length-3 c = search needs
 same-length-4 : tie.Need-same-length-4
 same-length-4 c = search needs
 
-same-length-5 : tie.Need-same-length-5
-same-length-5 c = search needs
-
 returns : tie.Need-returns
 returns c =
-    let m = c .before .before .before .before in
-    let u = m .before .before .before .before .before .before .before .before .before .before .before .before in
-    let s = start (origin u) in
-    (λ ts beyond h. done u (λ l. m .move-values .ensures .1) ts beyond h, λ l. m .move-values .ensures .0)
+    let m = c .before .before in
+    done (m .before .before .before .before .before .before .before .before .before .before .before) (λ l. m .move-values .ensures)
+
+same-length-5 : tie.Need-same-length-5
+same-length-5 c = search needs
 
 same-length-6 : tie.Need-same-length-6
 same-length-6 c = search needs
@@ -185,16 +172,8 @@ same-length-7 c = search needs
 same-length-8 : tie.Need-same-length-8
 same-length-8 c = search needs
 
-same-length-9 : tie.Need-same-length-9
-same-length-9 c = search needs
-
-same-length-10 : tie.Need-same-length-10
-same-length-10 c = search needs
-
 returns-2 : tie.Need-returns-2
-returns-2 c =
-    let u = c .before .before .before .before .before .before .before .before .before in
-    (λ ts beyond h. done u (λ l. absurd (omega (arith, c .if1 .left))) ts beyond h, λ l. absurd (omega (arith, c .if1 .left)))
+returns-2 c = done (c .before .before .before .before .before .before .before .before .before) (λ l. absurd (omega (arith, c .if1 .left)))
 
 pub unite-newest-spec : {M : Type 1} → statement M
 unite-newest-spec =
@@ -206,28 +185,20 @@ unite-newest-spec =
     values-from-requires
     add-values-from
     values-from-requires-2
-    mul-unite-tables
-    sub-unite-tables
-    part-unite-tables-start
-    part-unite-tables-end
-    mul-unite-tables-2
-    sub-unite-tables-2
-    part-unite-tables-start-2
-    part-unite-tables-end-2
+    sub-values-from
+    values-from-requires-3
     add-unite-tables
-    sub-unite-tables-3
-    mul-unite-tables-3
+    sub-unite-tables
+    mul-unite-tables
     unite-tables-requires
     move-values-requires
     same-length
     same-length-2
     same-length-3
     same-length-4
-    same-length-5
     returns
+    same-length-5
     same-length-6
     same-length-7
     same-length-8
-    same-length-9
-    same-length-10
     returns-2)

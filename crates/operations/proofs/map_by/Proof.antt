@@ -17,7 +17,7 @@ slice-aggregate-map-newest : tie.Need-slice-aggregate-map-newest
 slice-aggregate-map-newest c = search needs
 
 map-newest-requires : tie.Need-map-newest-requires
-map-newest-requires c κs = let s = c .before .before .before .before .before .before .before .before .before .before .before .before in ((s .pre .0 .0, s .pre .0 .1, s .pre .0 .2, s .pre .0 .3, s .pre .0 .4, s .pre .0 .5, omega arith), ((s .pre .1 .0 .0, s .pre .1 .0 .1), s .pre .1 .1))
+map-newest-requires c κs = let s = c .before .before .before .before .before .before .before .before .before .before in ((s .pre .0 .0, s .pre .0 .1, s .pre .0 .2, s .pre .0 .3, s .pre .0 .4, s .pre .0 .5, omega arith), s .pre .1 .1)
 
 same-length : tie.Need-same-length
 same-length c = search needs
@@ -31,15 +31,12 @@ same-length-3 c = search needs
 same-length-4 : tie.Need-same-length-4
 same-length-4 c = search needs
 
-same-length-5 : tie.Need-same-length-5
-same-length-5 c = search needs
-
 returns : tie.Need-returns
 returns c =
-    let u = c .before .before .before .before .before .before .before .before .before .before in
-    let v = u .before .before .before .before .before .before .before in
-    let s = v .before .before .before .before .before .before in
-    λ m. acts-as _ (λ ts. ap (λ (x : Command). changeNewest (batchedTable (s .args .carry) (x ∷ [])) ts) (v .word-of .ensures)) (u .map-newest .ensures .1 m)
+    let u = c .before .before .before .before .before .before .before .before in
+    let v = u .before .before .before .before .before .before in
+    let s = v .before .before .before .before .before in
+    λ m. acts-as (λ ts. ap (λ (x : Command). changeNewest (batchedTable (s .args .carry) (x ∷ [])) ts) (v .word-of .ensures)) (u .map-newest .ensures .1 m)
 
 pub map-by-spec : {M : Type 1} → statement M
 map-by-spec =
@@ -52,5 +49,4 @@ map-by-spec =
     same-length-2
     same-length-3
     same-length-4
-    same-length-5
     returns)

@@ -1,11 +1,21 @@
 -- `operations::push_atom`: the atom's table is made in the free area behind the tables, and its values moved to their place.
+use mathlib.Core.Path.{_≡_, refl}
+use mathlib.Core.List.{List}
 use Prim.Native.Nat.{ℕ, _+_, _-_, _*_, _≤_, _<_}
 use lib.ListN.{length}
+use Rattle.rows.specs.Parts.{part, put}
 use Rattle.rows.proofs.Tables.{row-within}
-use Rattle.operands.specs.Operands.{Loaded}
-use Rattle.operands.proofs.Loads.{beside-room, inside, scratch-zero, free-zero}
+use Rattle.entries.specs.Carries.{Kept}
+use Rattle.entries.proofs.Keeping.{in-most}
+use Rattle.entries.proofs.ValueAreas.{area-span}
+use Rattle.making.specs.Making.{tableOfAll}
+use Rattle.leaves.specs.Leaves.{leafEntries}
+use Rattle.workspace.specs.Workspace.{valuesFrom, placed}
+use Rattle.operands.specs.Operands.{Loaded, Acts}
+use Rattle.operations.specs.Operations.{pushed}
+use Rattle.operands.proofs.Loads.{values-apart, none-made, inside, scratch-zero, free-zero}
 use Rattle.leaves.proofs.Writing.{wide-two}
-use Rattle.operations.proofs.Pushing.{pushed-acted, leaf-filled, leaf-ordered}
+use Rattle.operations.proofs.Pushing.{made-long, pushed-acted, leaf-filled, leaf-ordered}
 use borrow.Author.Needs.{needs}
 use native.Mathlib.Omega.{arith}
 use borrow.Author.Needs.{needs}
@@ -14,15 +24,15 @@ use Rattle.operations.proofs.push_atom.Tie as tie
 use Rattle.leaf_tables.proofs.atom_table.Reads as atom-table-reads
 use Rattle.workspace.proofs.move_values.Reads as move-values-reads
 
-abbrev held : (s : tie.Start) → Loaded (s .args .carry) (s .args .d) (s .args .w) (s .args .p) (s .args .t) (s .pre .1 .1 .1 .0) (s .pre .1 .1 .1 .1) (s .pre .1 .1 .1 .2 .0) (s .pre .1 .1 .1 .2 .1) (s .args .ws .now) (s .args .vals .now)
-held s = s .pre .1 .1 .1 .2 .2
+abbrev held : (s : tie.Start) → Loaded (s .args .carry) (s .args .d) (s .args .w) (s .args .p) (s .args .t) (s .pre .1 .1 .0) (s .pre .1 .1 .1) (s .pre .1 .1 .2 .0) (s .pre .1 .1 .2 .1) (s .args .ws .now) (s .args .vals .now)
+held s = s .pre .1 .1 .2 .2
 
 module _ (s : tie.Start) where
   abbrev k : ℕ
   k = s .args .p * s .args .w
 
   deep : s .args .t + 1 < s .args .d
-  deep = s .pre .1 .1 .0
+  deep = s .pre .1 .0
 
   one : k ≤ length (s .args .ws .now)
   one = omega (arith, inside (held s) 0 (omega (arith, deep)))
@@ -36,31 +46,94 @@ module _ (s : tie.Start) where
   apart : s .args .t * k + k ≤ (s .args .d - 1) * k
   apart = row-within (s .args .t) (s .args .d - 1) k (omega (arith, deep))
 
+abbrev start : tie.After-words-of → tie.Start
+start v = v .before .before .before .before .before .before
+
+-- the area that values are made in
+module _ (v : tie.After-words-of) where
+  abbrev from : ℕ
+  from = v .before .values-from .result
+
+  abbrev many : ℕ
+  many = v .words-of .result
+
+  within : from + many ≤ length (start v .args .vals .now)
+  within =
+      let s = start v in
+      omega (arith, v .words-of .ensures, values-apart (held s .holds .roomy) (s .args .t) (deep s) (valuesFrom (s .args .carry) (s .args .p) (s .args .t)) from refl (v .before .values-from .ensures) .within)
+
+  none : Kept (start v .args .carry) (start v .args .p) 0 (part from (from + many - from) (start v .args .vals .now))
+  none = let s = start v in rw (area-span (s .args .carry) (s .args .p) from many (v .words-of .ensures)) (none-made (held s .holds .roomy) from (v .before .values-from .ensures))
+
+-- what comes back from there
+module _ (u : tie.After-atom-table) where
+  abbrev v : tie.After-words-of
+  v = u .before .before .before .before .before
+
+  abbrev s : tie.Start
+  s = start v
+
+  abbrev new : List ℕ
+  new = u .atom-table .last .1 .1 .1 .0
+
+  abbrev after : List ℕ
+  after = put (from v) (from v + many v - from v) (s .args .vals .now) new
+
+  after-long : length after ≡ length (s .args .vals .now)
+  after-long = made-long (s .args .carry) (s .args .d) (s .args .p) (s .args .t) (s .args .vals .now) (deep s) (from v) (many v) (v .before .values-from .ensures) (v .words-of .ensures) new (u .atom-table .kept .1 .1 .1 .0) (held s .holds .roomy)
+
+  done : {vals' : List ℕ} → (u .atom-table .result ≤ s .args .p → vals' ≡ placed (s .args .carry) (s .args .d) (s .args .p) (s .args .t) (u .atom-table .result) after)
+      → (n m : ℕ) → Acts (s .args .carry) (s .args .d) (s .args .w) (s .args .p) (s .args .t) n m (pushed (tableOfAll (s .args .carry) (leafEntries (s .args .tables) (s .args .atom) (s .args .g)))) (u .atom-table .result) (s .args .ws .now) (s .args .vals .now) (u .atom-table .last .0) vals'
+  done moved x y = pushed-acted (wide-two (s .args .tables) (s .args .w) (s .pre .0 .0)) (deep s) (from v) (many v) (v .before .values-from .ensures) (v .words-of .ensures) new (u .atom-table .kept .1 .1 .1 .0) (u .atom-table .ensures .0) (leaf-filled (s .args .tables) (s .args .atom) (s .args .g)) (leaf-ordered (s .args .tables) (s .args .atom) (s .args .g)) moved
+
 mul-area : tie.Need-mul-area
-mul-area c = let s = c .before .before .before .before .before in omega (arith, one s)
+mul-area c = let s = c .before .before .before .before in omega (arith, one s)
+
+sub-values-from : tie.Need-sub-values-from
+sub-values-from c = search needs
+
+values-from-requires : tie.Need-values-from-requires
+values-from-requires c κs = search needs
+
+words-of-requires : tie.Need-words-of-requires
+words-of-requires c κs = let s = c .before .before .before .before .before in omega (arith, in-most (s .args .carry) (s .args .p), s .pre .0 .1)
+
+add-atom-table : tie.Need-add-atom-table
+add-atom-table c = omega (arith, within (c .before .before .before))
 
 mul-atom-table : tie.Need-mul-atom-table
-mul-atom-table c =
-    let s = c .before .before .before .before .before .before .before .before .before in omega (arith, there s)
+mul-atom-table c = omega (arith, within (c .before .before .before))
 
 sub-atom-table : tie.Need-sub-atom-table
 sub-atom-table c = search needs
 
+part-atom-table-start : tie.Need-part-atom-table-start
+part-atom-table-start c = search needs
+
+part-atom-table-end : tie.Need-part-atom-table-end
+part-atom-table-end c = omega (arith, within (c .before .before .before))
+
 mul-atom-table-2 : tie.Need-mul-atom-table-2
-mul-atom-table-2 c =
-    let s = c .before .before .before .before .before .before .before .before .before in omega (arith, last s)
+mul-atom-table-2 c = let s = start (c .before .before .before .before) in omega (arith, there s)
+
+sub-atom-table-2 : tie.Need-sub-atom-table-2
+sub-atom-table-2 c = search needs
+
+mul-atom-table-3 : tie.Need-mul-atom-table-3
+mul-atom-table-3 c = let s = start (c .before .before .before .before) in omega (arith, last s)
 
 atom-table-requires : tie.Need-atom-table-requires
 atom-table-requires c κs =
-    let s = c .before .before .before .before .before .before .before .before .before in
-    ((s .pre .0 .0, s .pre .0 .1, s .pre .0 .3, s .pre .0 .5, s .pre .0 .6), ((apart s, last s), (free-zero (held s), scratch-zero (held s), s .pre .0 .4, s .pre .1 .0 .0)))
+    let v = c .before .before .before .before in
+    let s = start v in
+    ((s .pre .0 .0, s .pre .0 .1, s .pre .0 .3, s .pre .0 .5, s .pre .0 .6), ((apart s, last s), (free-zero (held s), scratch-zero (held s), s .pre .0 .4, none v)))
 
 move-values-requires : tie.Need-move-values-requires
 move-values-requires c κs =
-    let g = c .before .before in
+    let g = c .before in
     let u = g .before .before .before .before .before .before .before .before .before in
-    let s = u .before .before .before .before .before .before .before .before .before .before in
-    (u .atom-table .ensures .0 .kept (omega (arith, g .if1 .taken)), beside-room (s .args .carry) (s .args .d) (s .args .p) (s .args .t) (s .args .vals .now) (deep s) (s .pre .1 .0 .1), omega (arith, g .if1 .taken))
+    let s = start (v u) in
+    (omega (arith, g .if1 .taken), deep s, omega (arith, held s .holds .roomy .room, after-long u))
 
 same-length : tie.Need-same-length
 same-length c = search needs
@@ -74,15 +147,13 @@ same-length-3 c = search needs
 same-length-4 : tie.Need-same-length-4
 same-length-4 c = search needs
 
-same-length-5 : tie.Need-same-length-5
-same-length-5 c = search needs
-
 returns : tie.Need-returns
 returns c =
-    let m = c .before .before .before .before in
-    let u = m .before .before .before .before .before .before .before .before .before .before .before .before in
-    let s = u .before .before .before .before .before .before .before .before .before .before in
-    λ x y. (pushed-acted (wide-two (s .args .tables) (s .args .w) (s .pre .0 .0)) (deep s) (s .pre .1 .0 .1) (u .atom-table .ensures .0) (leaf-filled (s .args .tables) (s .args .atom) (s .args .g)) (leaf-ordered (s .args .tables) (s .args .atom) (s .args .g)) (λ l. m .move-values .ensures .1), λ l. m .move-values .ensures .0)
+    let m = c .before .before in
+    done (m .before .before .before .before .before .before .before .before .before .before .before) (λ l. m .move-values .ensures)
+
+same-length-5 : tie.Need-same-length-5
+same-length-5 c = search needs
 
 same-length-6 : tie.Need-same-length-6
 same-length-6 c = search needs
@@ -93,33 +164,35 @@ same-length-7 c = search needs
 same-length-8 : tie.Need-same-length-8
 same-length-8 c = search needs
 
-same-length-9 : tie.Need-same-length-9
-same-length-9 c = search needs
-
 returns-2 : tie.Need-returns-2
 returns-2 c =
-    let u = c .before .before .before .before .before .before .before .before .before in
-    let s = u .before .before .before .before .before .before .before .before .before .before in
-    λ x y. (pushed-acted (wide-two (s .args .tables) (s .args .w) (s .pre .0 .0)) (deep s) (s .pre .1 .0 .1) (u .atom-table .ensures .0) (leaf-filled (s .args .tables) (s .args .atom) (s .args .g)) (leaf-ordered (s .args .tables) (s .args .atom) (s .args .g)) (λ l. absurd (omega (arith, c .if1 .left))), λ l. absurd (omega (arith, c .if1 .left)))
+    done (c .before .before .before .before .before .before .before .before .before) (λ l. absurd (omega (arith, c .if1 .left)))
 
 pub push-atom-spec : {M : Type 1} → statement M
 push-atom-spec =
     tie.close
     (tie.spec
     mul-area
+    sub-values-from
+    values-from-requires
+    words-of-requires
+    add-atom-table
     mul-atom-table
     sub-atom-table
+    part-atom-table-start
+    part-atom-table-end
     mul-atom-table-2
+    sub-atom-table-2
+    mul-atom-table-3
     atom-table-requires
     move-values-requires
     same-length
     same-length-2
     same-length-3
     same-length-4
-    same-length-5
     returns
+    same-length-5
     same-length-6
     same-length-7
     same-length-8
-    same-length-9
     returns-2)

@@ -1,10 +1,20 @@
 -- `operations::push_rule`: the rule's table is made in the free area behind the tables, and its values moved to their place.
+use mathlib.Core.Path.{_≡_, refl}
+use mathlib.Core.List.{List, [], _∷_}
 use Prim.Native.Nat.{ℕ, _+_, _-_, _*_, _≤_, _<_}
 use lib.ListN.{length}
+use Rattle.rows.specs.Parts.{part, put}
 use Rattle.rows.proofs.Tables.{row-within}
-use Rattle.operands.specs.Operands.{Loaded}
-use Rattle.operands.proofs.Loads.{beside-room, inside, scratch-zero, free-zero}
-use Rattle.operations.proofs.Pushing.{pushed-acted, rule-filled, rule-ordered}
+use Rattle.entries.specs.Carries.{Kept}
+use Rattle.entries.proofs.Keeping.{in-most}
+use Rattle.entries.proofs.ValueAreas.{area-span}
+use Rattle.making.specs.Making.{tableOfAll}
+use Rattle.leaves.specs.Leaves.{tableAlgebra}
+use Rattle.workspace.specs.Workspace.{valuesFrom, placed}
+use Rattle.operands.specs.Operands.{Loaded, Acts}
+use Rattle.operations.specs.Operations.{pushed}
+use Rattle.operands.proofs.Loads.{values-apart, none-made, inside, scratch-zero, free-zero}
+use Rattle.operations.proofs.Pushing.{made-long, pushed-acted, rule-filled, rule-ordered}
 use borrow.Author.Needs.{needs}
 use native.Mathlib.Omega.{arith}
 use borrow.Author.Needs.{needs}
@@ -13,15 +23,15 @@ use Rattle.operations.proofs.push_rule.Tie as tie
 use Rattle.leaf_tables.proofs.rule_table.Reads as rule-table-reads
 use Rattle.workspace.proofs.move_values.Reads as move-values-reads
 
-abbrev held : (s : tie.Start) → Loaded (s .args .carry) (s .args .d) (s .args .w) (s .args .p) (s .args .t) (s .pre .1 .1 .1 .0) (s .pre .1 .1 .1 .1) (s .pre .1 .1 .1 .2 .0) (s .pre .1 .1 .1 .2 .1) (s .args .ws .now) (s .args .vals .now)
-held s = s .pre .1 .1 .1 .2 .2
+abbrev held : (s : tie.Start) → Loaded (s .args .carry) (s .args .d) (s .args .w) (s .args .p) (s .args .t) (s .pre .1 .1 .0) (s .pre .1 .1 .1) (s .pre .1 .1 .2 .0) (s .pre .1 .1 .2 .1) (s .args .ws .now) (s .args .vals .now)
+held s = s .pre .1 .1 .2 .2
 
 module _ (s : tie.Start) where
   abbrev k : ℕ
   k = s .args .p * s .args .w
 
   deep : s .args .t + 1 < s .args .d
-  deep = s .pre .1 .1 .0
+  deep = s .pre .1 .0
 
   one : k ≤ length (s .args .ws .now)
   one = omega (arith, inside (held s) 0 (omega (arith, deep)))
@@ -35,30 +45,93 @@ module _ (s : tie.Start) where
   apart : s .args .t * k + k ≤ (s .args .d - 1) * k
   apart = row-within (s .args .t) (s .args .d - 1) k (omega (arith, deep))
 
+abbrev start : tie.After-words-of → tie.Start
+start v = v .before .before .before .before .before .before
+
+-- the area that values are made in
+module _ (v : tie.After-words-of) where
+  abbrev from : ℕ
+  from = v .before .values-from .result
+
+  abbrev many : ℕ
+  many = v .words-of .result
+
+  within : from + many ≤ length (start v .args .vals .now)
+  within =
+      let s = start v in
+      omega (arith, v .words-of .ensures, values-apart (held s .holds .roomy) (s .args .t) (deep s) (valuesFrom (s .args .carry) (s .args .p) (s .args .t)) from refl (v .before .values-from .ensures) .within)
+
+  none : Kept (start v .args .carry) (start v .args .p) 0 (part from (from + many - from) (start v .args .vals .now))
+  none = let s = start v in rw (area-span (s .args .carry) (s .args .p) from many (v .words-of .ensures)) (none-made (held s .holds .roomy) from (v .before .values-from .ensures))
+
+-- what comes back from there
+module _ (u : tie.After-rule-table) where
+  abbrev v : tie.After-words-of
+  v = u .before .before .before .before .before
+
+  abbrev s : tie.Start
+  s = start v
+
+  abbrev new : List ℕ
+  new = u .rule-table .last .1 .1 .1 .0
+
+  abbrev after : List ℕ
+  after = put (from v) (from v + many v - from v) (s .args .vals .now) new
+
+  after-long : length after ≡ length (s .args .vals .now)
+  after-long = made-long (s .args .carry) (s .args .d) (s .args .p) (s .args .t) (s .args .vals .now) (deep s) (from v) (many v) (v .before .values-from .ensures) (v .words-of .ensures) new (u .rule-table .kept .1 .1 .1 .0) (held s .holds .roomy)
+
+  done : {vals' : List ℕ} → (u .rule-table .result ≤ s .args .p → vals' ≡ placed (s .args .carry) (s .args .d) (s .args .p) (s .args .t) (u .rule-table .result) after)
+      → (n m : ℕ) → Acts (s .args .carry) (s .args .d) (s .args .w) (s .args .p) (s .args .t) n m (pushed (tableOfAll (s .args .carry) (tableAlgebra (s .args .tables) (s .args .carry) .unmet (s .args .g) ∷ []))) (u .rule-table .result) (s .args .ws .now) (s .args .vals .now) (u .rule-table .last .0) vals'
+  done moved x y = pushed-acted (s .pre .0 .0) (deep s) (from v) (many v) (v .before .values-from .ensures) (v .words-of .ensures) new (u .rule-table .kept .1 .1 .1 .0) (u .rule-table .ensures .0) (rule-filled (s .args .carry) (s .args .tables) (s .args .g)) (rule-ordered (s .args .carry) (s .args .tables) (s .args .g)) moved
+
 mul-area : tie.Need-mul-area
-mul-area c = let s = c .before .before .before .before .before in omega (arith, one s)
+mul-area c = let s = c .before .before .before .before in omega (arith, one s)
+
+sub-values-from : tie.Need-sub-values-from
+sub-values-from c = search needs
+
+values-from-requires : tie.Need-values-from-requires
+values-from-requires c κs = search needs
+
+words-of-requires : tie.Need-words-of-requires
+words-of-requires c κs = let s = c .before .before .before .before .before in omega (arith, in-most (s .args .carry) (s .args .p), s .pre .0 .2)
+
+add-rule-table : tie.Need-add-rule-table
+add-rule-table c = omega (arith, within (c .before .before .before))
 
 mul-rule-table : tie.Need-mul-rule-table
-mul-rule-table c =
-    let s = c .before .before .before .before .before .before .before .before .before in omega (arith, there s)
+mul-rule-table c = omega (arith, within (c .before .before .before))
 
 sub-rule-table : tie.Need-sub-rule-table
 sub-rule-table c = search needs
 
+part-rule-table-start : tie.Need-part-rule-table-start
+part-rule-table-start c = search needs
+
+part-rule-table-end : tie.Need-part-rule-table-end
+part-rule-table-end c = omega (arith, within (c .before .before .before))
+
 mul-rule-table-2 : tie.Need-mul-rule-table-2
-mul-rule-table-2 c =
-    let s = c .before .before .before .before .before .before .before .before .before in omega (arith, last s)
+mul-rule-table-2 c = let s = start (c .before .before .before .before) in omega (arith, there s)
+
+sub-rule-table-2 : tie.Need-sub-rule-table-2
+sub-rule-table-2 c = search needs
+
+mul-rule-table-3 : tie.Need-mul-rule-table-3
+mul-rule-table-3 c = let s = start (c .before .before .before .before) in omega (arith, last s)
 
 rule-table-requires : tie.Need-rule-table-requires
 rule-table-requires c κs =
-    let s = c .before .before .before .before .before .before .before .before .before in
-    ((s .pre .0 .0, s .pre .0 .1, s .pre .0 .2, s .pre .0 .4, s .pre .0 .6), ((apart s, last s), (free-zero (held s), scratch-zero (held s), s .pre .0 .5, s .pre .1 .0 .0)))
+    let v = c .before .before .before .before in
+    let s = start v in
+    ((s .pre .0 .0, s .pre .0 .1, s .pre .0 .2, s .pre .0 .4, s .pre .0 .6), ((apart s, last s), (free-zero (held s), scratch-zero (held s), s .pre .0 .5, none v)))
 
 move-values-requires : tie.Need-move-values-requires
 move-values-requires c κs =
-    let u = c .before .before .before .before .before .before .before .before .before .before in
-    let s = u .before .before .before .before .before .before .before .before .before .before in
-    (u .rule-table .ensures .0 .kept (u .rule-table .ensures .1), beside-room (s .args .carry) (s .args .d) (s .args .p) (s .args .t) (s .args .vals .now) (deep s) (s .pre .1 .0 .1), u .rule-table .ensures .1)
+    let u = c .before .before .before .before .before .before .before .before .before in
+    let s = start (v u) in
+    (u .rule-table .ensures .1, deep s, omega (arith, held s .holds .roomy .room, after-long u))
 
 same-length : tie.Need-same-length
 same-length c = search needs
@@ -72,29 +145,31 @@ same-length-3 c = search needs
 same-length-4 : tie.Need-same-length-4
 same-length-4 c = search needs
 
-same-length-5 : tie.Need-same-length-5
-same-length-5 c = search needs
-
 returns : tie.Need-returns
 returns c =
-    let m = c .before .before .before .before in
-    let u = m .before .before .before .before .before .before .before .before .before .before .before in
-    let s = u .before .before .before .before .before .before .before .before .before .before in
-    λ x y. (pushed-acted (s .pre .0 .0) (deep s) (s .pre .1 .0 .1) (u .rule-table .ensures .0) (rule-filled (s .args .carry) (s .args .tables) (s .args .g)) (rule-ordered (s .args .carry) (s .args .tables) (s .args .g)) (λ l. m .move-values .ensures .1), λ l. m .move-values .ensures .0)
+    let m = c .before .before in
+    done (m .before .before .before .before .before .before .before .before .before .before) (λ l. m .move-values .ensures)
 
 pub push-rule-spec : {M : Type 1} → statement M
 push-rule-spec =
     tie.close
     (tie.spec
     mul-area
+    sub-values-from
+    values-from-requires
+    words-of-requires
+    add-rule-table
     mul-rule-table
     sub-rule-table
+    part-rule-table-start
+    part-rule-table-end
     mul-rule-table-2
+    sub-rule-table-2
+    mul-rule-table-3
     rule-table-requires
     move-values-requires
     same-length
     same-length-2
     same-length-3
     same-length-4
-    same-length-5
     returns)

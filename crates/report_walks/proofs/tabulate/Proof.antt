@@ -10,6 +10,7 @@ use Rattle.entries.specs.declared.Carry.the-variants.{Nothing}
 use Rattle.entries.specs.Carries.{Entry}
 use Rattle.leaves.proofs.Writing.{wide-two}
 use Rattle.workspace.specs.Workspace.{pairsOf}
+use Rattle.workspace.proofs.Values.{roomy-nothing}
 use Rattle.stacks.proofs.Clearing.{holds-counted}
 use Rattle.walks.specs.declared.Reached.{Reached}
 use Rattle.walks.specs.declared.Reached.the-variants.{Through}
@@ -29,7 +30,7 @@ use Rattle.stacks.proofs.clear_tables.Reads as clear-tables-reads
 use Rattle.walks.proofs.walk.Reads as walk-reads
 
 abbrev start : tie.After-clear-need → tie.Start
-start c = c .before .before .before .before .before .before .before .before .before .before
+start c = c .before .before .before .before .before .before .before .before .before
 
 -- no table stands in the cleared words
 module _ (c : tie.After-clear-need) where
@@ -39,17 +40,17 @@ module _ (c : tie.After-clear-need) where
   none : Stands Nothing (depthLimit + 1) (start c .args .w) (start c .args .p) [] back (c .clear-need .last .0) (start c .args .vals .now) (start c .args .counts .now)
   none =
       let s = start c in
-      stands-clear (s .args .w) (s .args .p) (s .args .need) (s .args .ws .now) (s .pre .1 .1 .2) Nothing (c .clear-need .last .0) (s .args .vals .now) (s .args .counts .now) (c .clear-need .ensures) (s .pre .1 .0 .1)
+      stands-clear (s .args .w) (s .args .p) (s .args .need) (s .args .ws .now) (s .pre .1 .1 .2) Nothing (c .clear-need .last .0) (s .args .vals .now) (s .args .counts .now) (c .clear-need .ensures) (s .pre .1 .0 .0) (roomy-nothing (depthLimit + 1) (s .args .p) (s .args .vals .now))
 
 abbrev origin : tie.After-walk → tie.After-clear-need
-origin u = u .before .before .before .before .before .before .before .before .before
+origin u = u .before .before .before .before .before .before .before .before
 
 -- what the walk reached, by its variant
 module _ (u : tie.After-walk) where
   abbrev Reach : Reached → Type 0
   Reach r =
       let s = start (origin u) in
-      Reaches (s .args .kind) Nothing (byMasks (s .args .assumed-true) (s .args .assumed-false)) (depthLimit + 1) (s .args .w) (s .args .p) (s .args .asked + 1) (s .args .s .now) (back (origin u)) (u .walk .last .1 .1 .0) (u .walk .last .1 .1 .1 .1 .1 .1 .0) (u .walk .last .1 .1 .1 .1 .1 .1 .1 .0) r
+      Reaches (s .args .kind) Nothing (byMasks (s .args .assumed-true) (s .args .assumed-false)) (depthLimit + 1) (s .args .w) (s .args .p) (s .args .asked + 1) (s .args .s .now) (back (origin u)) (u .walk .last .1 .1 .0) (u .walk .last .1 .1 .1 .1 .1 .0) (u .walk .last .1 .1 .1 .1 .1 .1 .0) r
 
   reach : Reach (u .walk .result)
   reach = u .walk .ensures (back (origin u)) (none (origin u))
@@ -59,7 +60,7 @@ module _ (u : tie.After-walk) where
 
 -- where it came through
 abbrev walked-by : tie.After-r2 → tie.After-walk
-walked-by e = e .before .before .before .before .before .before .before .before .before .before .before .before .before .before
+walked-by e = e .before .before .before .before .before .before .before .before .before .before .before .before
 
 through : (e : tie.After-r2) → Reach (walked-by e) (Through (e .r2 .given .0 .0))
 through e = subst (Reach (walked-by e)) (e .r2 .given .1) (reach (walked-by e))
@@ -72,9 +73,9 @@ add-walk c = search needs
 
 walk-requires : tie.Need-walk-requires
 walk-requires c κs =
-    let n = c .before .before .before .before .before .before .before .before in
+    let n = c .before .before .before .before .before .before .before in
     let s = start n in
-    ((s .pre .0 .0, s .pre .0 .1, s .pre .0 .2, s .pre .0 .3, s .pre .0 .4, s .pre .0 .5, omega (arith, s .pre .1 .0 .2)), ((s .pre .1 .0 .0, omega arith), (s .pre .1 .1 .0, (back n, none n))))
+    ((s .pre .0 .0, s .pre .0 .1, s .pre .0 .2, s .pre .0 .3, s .pre .0 .4, s .pre .0 .5, omega (arith, s .pre .1 .0 .1)), (s .pre .1 .1 .0, (back n, none n)))
 
 enum-known-r : tie.Need-enum-known-r
 enum-known-r c = search needs
@@ -82,7 +83,7 @@ enum-known-r c = search needs
 clear-tables-requires : tie.Need-clear-tables-requires
 clear-tables-requires c κs =
     let e = c .before .before .before in
-    let u = e .before .before .before .before .before .before .before .before .before .before .before .before .before .before in
+    let u = e .before .before .before .before .before .before .before .before .before .before .before .before in
     let s = start (origin u) in
     let R = subst (Reach u) (e .r .given .1) (reach u) in
     (wide-two (s .args .kind) (s .args .w) (s .pre .0 .0), (depthLimit + 1, R .1 .0, back (origin u), R .1 .1))
@@ -96,7 +97,7 @@ report-newest-requires c κs =
     let u = walked-by e in
     let s = start (origin u) in
     let R = through e in
-    ((wide-two (s .args .kind) (s .args .w) (s .pre .0 .0), s .pre .0 .1, s .pre .0 .3, R .5 (omega arith)), (R .0, back (origin u), u .walk .last .1 .1 .1 .1 .1 .1 .0, R .2, R .3))
+    ((wide-two (s .args .kind) (s .args .w) (s .pre .0 .0), s .pre .0 .1, s .pre .0 .3, R .5 (omega arith)), (R .0, back (origin u), u .walk .last .1 .1 .1 .1 .1 .0, R .2, R .3))
 
 clear-tables-requires-2 : tie.Need-clear-tables-requires-2
 clear-tables-requires-2 c κs =
@@ -120,20 +121,20 @@ same-length-4 c = search needs
 same-length-5 : tie.Need-same-length-5
 same-length-5 c = search needs
 
-same-length-6 : tie.Need-same-length-6
-same-length-6 c = search needs
-
 returns : tie.Need-returns
 returns c =
     let d = c .before .before in
     let e = c .before .before .before .before .before .before in
-    let u = e .before .before .before .before .before .before .before .before .before .before .before .before .before .before in
+    let u = e .before .before .before .before .before .before .before .before .before .before .before .before in
     let s = start (origin u) in
     let R = subst (Reach u) (e .r .given .1) (reach u) in
     (sym (ap (λ (v : Walked Entry). reportAnswer (λ (x : List Entry). reportOf (s .args .kind) (pairsOf x)) (length (s .args .out .now)) (s .args .asked) (newestIn v)) (R .0)), (sym (ap (λ (v : Walked Entry). reportBuffer (λ (x : List Entry). reportOf (s .args .kind) (pairsOf x)) (s .args .out .now) (newestIn v)) (R .0)), all-clear (s .args .w) (s .args .p) (s .args .need) (s .args .ws .now) (s .pre .1 .1 .2) _ (d .clear-tables .ensures (depthLimit + 1) (R .1 .0) (back (origin u)) (R .1 .1))))
 
+same-length-6 : tie.Need-same-length-6
+same-length-6 c = c .before .before .clear-tables2 .kept .0 ∙ long (walked-by (c .before .before .before .before .before .before .before .before .before .before .before .before))
+
 same-length-7 : tie.Need-same-length-7
-same-length-7 c = c .before .before .clear-tables2 .kept .0 ∙ long (walked-by (c .before .before .before .before .before .before .before .before .before .before .before .before))
+same-length-7 c = search needs
 
 same-length-8 : tie.Need-same-length-8
 same-length-8 c = search needs
@@ -147,12 +148,6 @@ same-length-10 c = search needs
 same-length-11 : tie.Need-same-length-11
 same-length-11 c = search needs
 
-same-length-12 : tie.Need-same-length-12
-same-length-12 c = search needs
-
-same-length-13 : tie.Need-same-length-13
-same-length-13 c = search needs
-
 returns-2 : tie.Need-returns-2
 returns-2 c =
     let d = c .before .before in
@@ -161,7 +156,7 @@ returns-2 c =
     let u = walked-by e in
     let s = start (origin u) in
     let R = through e in
-    let N = n .ensures (R .0) (back (origin u)) (u .walk .last .1 .1 .1 .1 .1 .1 .0) (R .2) (R .3) in
+    let N = n .ensures (R .0) (back (origin u)) (u .walk .last .1 .1 .1 .1 .1 .0) (R .2) (R .3) in
     (N .0 ∙ sym (ap (λ (v : Walked Entry). reportAnswer (λ (x : List Entry). reportOf (s .args .kind) (pairsOf x)) (length (s .args .out .now)) (s .args .asked) (newestIn v)) (R .1)), (N .1 ∙ sym (ap (λ (v : Walked Entry). reportBuffer (λ (x : List Entry). reportOf (s .args .kind) (pairsOf x)) (s .args .out .now) (newestIn v)) (R .1)), all-clear (s .args .w) (s .args .p) (s .args .need) (s .args .ws .now) (s .pre .1 .1 .2) _ (d .clear-tables2 .ensures (depthLimit + 1) (map pairsOf (R .0)) (back (origin u)) (holds-counted depthLimit (R .2 .holds) (R .3) (R .2 .tallies)))))
 
 pub tabulate-spec : {M : Type 1} → statement M
@@ -181,13 +176,11 @@ tabulate-spec =
     same-length-3
     same-length-4
     same-length-5
-    same-length-6
     returns
+    same-length-6
     same-length-7
     same-length-8
     same-length-9
     same-length-10
     same-length-11
-    same-length-12
-    same-length-13
     returns-2)

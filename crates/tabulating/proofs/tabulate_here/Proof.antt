@@ -19,12 +19,9 @@ slice-aggregate-tabulate-in-3 c = search needs
 slice-aggregate-tabulate-in-4 : tie.Need-slice-aggregate-tabulate-in-4
 slice-aggregate-tabulate-in-4 c = search needs
 
-slice-aggregate-tabulate-in-5 : tie.Need-slice-aggregate-tabulate-in-5
-slice-aggregate-tabulate-in-5 c = search needs
-
 tabulate-in-requires : tie.Need-tabulate-in-requires
 tabulate-in-requires c κs =
-    let s = c .before .before .before .before .before .before .before .before .before .before in
+    let s = c .before .before .before .before .before .before .before .before .before in
     ((s .pre .0 .0, omega (arith, s .pre .0 .1), s .pre .0 .2, s .pre .0 .3, s .pre .0 .1, s .pre .0 .3), ((refl, s .pre .0 .4), s .pre .1))
 
 same-length : tie.Need-same-length
@@ -44,7 +41,6 @@ tabulate-here-spec =
     slice-aggregate-tabulate-in-2
     slice-aggregate-tabulate-in-3
     slice-aggregate-tabulate-in-4
-    slice-aggregate-tabulate-in-5
     tabulate-in-requires
     same-length
     same-length-2

@@ -1,5 +1,5 @@
 -- `tabulating::tabulate_in`: the front of each array is lent.
-use mathlib.Core.Path.{refl, sym}
+use mathlib.Core.Path.{sym}
 use lib.Seq.{length-take-le}
 use borrow.Author.Needs.{needs}
 use borrow.Author.Needs.{needs}
@@ -12,18 +12,12 @@ slice-relend-prefix-tabulate c = search needs
 
 slice-aggregate-tabulate : tie.Need-slice-aggregate-tabulate
 slice-aggregate-tabulate c =
-    let s = c .before .before .before .before .before .before .before .before .before .before .before in sym (length-take-le (s .args .w) (s .args .row .now) (s .pre .0 .4))
-
-slice-relend-prefix-tabulate-2 : tie.Need-slice-relend-prefix-tabulate-2
-slice-relend-prefix-tabulate-2 c = search needs
-
-slice-aggregate-tabulate-2 : tie.Need-slice-aggregate-tabulate-2
-slice-aggregate-tabulate-2 c = search needs
+    let s = c .before .before .before .before .before .before .before .before .before .before in sym (length-take-le (s .args .w) (s .args .row .now) (s .pre .0 .4))
 
 tabulate-requires : tie.Need-tabulate-requires
 tabulate-requires c κs =
-    let s = c .before .before .before .before .before .before .before .before .before .before .before .before .before .before .before in
-    ((s .pre .0 .0, s .pre .0 .1, s .pre .0 .2, s .pre .0 .3, length-take-le (s .args .w) (s .args .row .now) (s .pre .0 .4), s .pre .0 .5), (((refl, refl), s .pre .1 .0 .0, s .pre .1 .0 .1), s .pre .1 .1))
+    let s = c .before .before .before .before .before .before .before .before .before .before .before .before .before in
+    ((s .pre .0 .0, s .pre .0 .1, s .pre .0 .2, s .pre .0 .3, length-take-le (s .args .w) (s .args .row .now) (s .pre .0 .4), s .pre .0 .5), (s .pre .1 .0, s .pre .1 .1))
 
 same-length : tie.Need-same-length
 same-length c = search needs
@@ -43,9 +37,6 @@ same-length-5 c = search needs
 same-length-6 : tie.Need-same-length-6
 same-length-6 c = search needs
 
-same-length-7 : tie.Need-same-length-7
-same-length-7 c = search needs
-
 returns : tie.Need-returns
 returns c = search needs
 
@@ -55,8 +46,6 @@ tabulate-in-spec =
     (tie.spec
     slice-relend-prefix-tabulate
     slice-aggregate-tabulate
-    slice-relend-prefix-tabulate-2
-    slice-aggregate-tabulate-2
     tabulate-requires
     same-length
     same-length-2
@@ -64,5 +53,4 @@ tabulate-in-spec =
     same-length-4
     same-length-5
     same-length-6
-    same-length-7
     returns)

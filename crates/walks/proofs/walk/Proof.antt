@@ -9,7 +9,7 @@ slice-aggregate-walk-by c = search needs
 
 walk-by-requires : tie.Need-walk-by-requires
 walk-by-requires c κs =
-    let s = c .before .before .before .before .before .before .before .before .before .before .before .before .before .before in
+    let s = c .before .before .before .before .before .before .before .before .before .before .before .before in
     ((s .pre .0 .0, s .pre .0 .1, s .pre .0 .2, s .pre .0 .3, s .pre .0 .4, s .pre .0 .5, s .pre .0 .6, omega arith), s .pre .1)
 
 same-length : tie.Need-same-length
@@ -27,9 +27,6 @@ same-length-4 c = search needs
 same-length-5 : tie.Need-same-length-5
 same-length-5 c = search needs
 
-same-length-6 : tie.Need-same-length-6
-same-length-6 c = search needs
-
 returns : tie.Need-returns
 returns c = search needs
 
@@ -44,5 +41,4 @@ walk-spec =
     same-length-3
     same-length-4
     same-length-5
-    same-length-6
     returns)

@@ -1,99 +1,75 @@
--- `workspace::move_values`: the words of r values.
-use mathlib.Core.Path.{_≡_, sym, _∙_}
-use Prim.Native.Nat.{_+_, _*_, _≤_}
+-- `workspace::move_values`: where the areas begin, and how many words r values take.
+use mathlib.Core.Path.{_≡_, ap, _∙_}
+use Prim.Native.Nat.{ℕ, _+_, _-_, _*_, _≤_}
 use lib.ListN.{length}
-use lib.Seq.{length-take-le}
-use Rattle.rows.proofs.Parts.{span, part-long}
+use Rattle.rows.proofs.Tables.{row-within}
 use Rattle.entries.specs.Carries.{inWords}
-use Rattle.entries.proofs.Keeping.{in-row, in-rising}
-use Rattle.workspace.proofs.Values.{values-moved}
+use Rattle.entries.proofs.Keeping.{in-rising}
 use native.Mathlib.Omega.{arith}
 use borrow.Author.Needs.{needs}
 use Rattle.workspace.proofs.move_values.Statement.{statement}
 use Rattle.workspace.proofs.move_values.Tie as tie
 
 module _ (s : tie.Start) where
-  long : length (s .args .made .now) ≡ inWords (s .args .carry) (s .args .p)
-  long = s .pre .0 .1
+  abbrev k : ℕ
+  k = inWords (s .args .carry) (s .args .p)
 
-  few : inWords (s .args .carry) (s .args .r) ≤ length (s .args .made .now)
-  few = omega (arith, long, in-rising (s .args .carry) (s .args .r) (s .args .p) (s .pre .2))
+  few : inWords (s .args .carry) (s .args .r) ≤ k
+  few = in-rising (s .args .carry) (s .args .r) (s .args .p) (s .pre .0)
 
-  within : s .args .i * length (s .args .made .now) + length (s .args .made .now) ≤ length (s .args .vals .now)
-  within = rw long (omega (arith, in-row (s .args .carry) (s .args .i) (s .args .p), s .pre .1))
+  apart : s .args .i * k + k ≤ (s .args .d - 1) * k
+  apart = row-within (s .args .i) (s .args .d - 1) k (omega (arith, s .pre .1))
 
-abbrev start : tie.After-words-of → tie.Start
+  within : (s .args .d - 1) * k + k ≤ length (s .args .vals .now)
+  within = omega (arith, row-within (s .args .d - 1) (s .args .d) k (omega (arith, s .pre .1)), s .pre .2)
+
+abbrev start : tie.After-words-of2 → tie.Start
 start c = c .before .before .before
 
--- the words that are moved
-taken : (c : tie.After-words-of) → c .words-of .result ≤ length (start c .args .made .now)
-taken c = omega (arith, c .words-of .ensures, few (start c))
-
-inside : (c : tie.After-words-of) → start c .args .i * length (start c .args .made .now) + c .words-of .result ≤ length (start c .args .vals .now)
-inside c = omega (arith, taken c, within (start c))
-
-mul-o : tie.Need-mul-o
-mul-o c = omega (arith, within (c .before .before))
+-- where area i begins
+from : (c : tie.After-words-of2) (i : ℕ) → i * c .before .words-of .result ≡ i * k (start c)
+from c i = ap (λ (j : ℕ). i * j) (c .before .words-of .ensures)
 
 words-of-requires : tie.Need-words-of-requires
-words-of-requires c κs = omega (arith, few (c .before .before))
+words-of-requires c κs = omega (arith, within (c .before))
 
-add-move-words : tie.Need-add-move-words
-add-move-words c = omega (arith, inside c)
+words-of-requires-2 : tie.Need-words-of-requires-2
+words-of-requires-2 c κs = let s = c .before .before in omega (arith, few s, within s)
 
 mul-move-words : tie.Need-mul-move-words
-mul-move-words c = omega (arith, inside c)
+mul-move-words c = let v = c .before in omega (arith, from v (start v .args .i), apart (start v), within (start v))
 
 sub-move-words : tie.Need-sub-move-words
 sub-move-words c = search needs
 
-part-move-words-start : tie.Need-part-move-words-start
-part-move-words-start c = search needs
-
-part-move-words-end : tie.Need-part-move-words-end
-part-move-words-end c = omega (arith, inside c)
-
-slice-relend-prefix-move-words : tie.Need-slice-relend-prefix-move-words
-slice-relend-prefix-move-words c = omega (arith, taken (c .before))
-
-slice-aggregate-move-words : tie.Need-slice-aggregate-move-words
-slice-aggregate-move-words c = let e = c .before .before in sym (length-take-le (e .words-of .result) (start e .args .made .now) (taken e))
+mul-move-words-2 : tie.Need-mul-move-words-2
+mul-move-words-2 c = let v = c .before in omega (arith, from v (start v .args .d - 1), within (start v))
 
 move-words-requires : tie.Need-move-words-requires
 move-words-requires c κs =
-    let e = c .before .before in
-    let s = start e in
-    let n = e .words-of .result in
-    let o = s .args .i * length (s .args .made .now) in
-    rw (span o n) (part-long o n (s .args .vals .now) (inside e) ∙ sym (length-take-le n (s .args .made .now) (taken e)))
+    let v = c .before in
+    let s = start v in
+    rw (v .words-of2 .ensures, from v (s .args .i), from v (s .args .d - 1)) (omega (arith, few s, apart s), omega (arith, few s, within s))
 
 same-length : tie.Need-same-length
 same-length c = search needs
 
-same-length-2 : tie.Need-same-length-2
-same-length-2 c = search needs
-
 returns : tie.Need-returns
 returns c =
-    let m = c .before .before .before .before in
-    let e = m .before .before .before in
-    let s = start e in
-    rw (span (s .args .i * length (s .args .made .now)) (e .words-of .result)) (values-moved (s .args .carry) (s .args .p) (s .args .i) (s .args .r) (e .words-of .result) (s .args .made .now) (s .args .vals .now) (m .move-words .last .1 .0) (m .move-words .last .0) (e .words-of .ensures) (s .pre .0) (s .pre .2) (m .move-words .ensures .0) (m .move-words .ensures .1))
+    let m = c .before .before in
+    let v = m .before .before in
+    let s = start v in
+    m .move-words .ensures ∙ rw (v .words-of2 .ensures, from v (s .args .i), from v (s .args .d - 1))
 
 pub move-values-spec : {M : Type 1} → statement M
 move-values-spec =
     tie.close
     (tie.spec
-    mul-o
     words-of-requires
-    add-move-words
+    words-of-requires-2
     mul-move-words
     sub-move-words
-    part-move-words-start
-    part-move-words-end
-    slice-relend-prefix-move-words
-    slice-aggregate-move-words
+    mul-move-words-2
     move-words-requires
     same-length
-    same-length-2
     returns)

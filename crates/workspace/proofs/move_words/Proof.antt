@@ -1,24 +1,23 @@
--- `workspace::move_words`: below i the words of src stand in the part, and zeros in src.
-use mathlib.Core.Path.{_≡_, refl, sym, ap, _∙_}
-use mathlib.Core.List.{List}
-use Prim.Native.Nat.{ℕ, _≤_, _-_}
-use lib.ListN.{length, getD, length-set, getD-replicate}
-use Rattle.rows.specs.Parts.{zeros}
-use Rattle.rows.proofs.Parts.{zeros-long}
-use Rattle.words.proofs.Mix.{mix, mix-more, mix-get-high, mix-all}
+-- `workspace::move_words`: below i the words stand in their new place, and zeros in the old one.
+use mathlib.Core.Path.{_≡_, refl, sym, _∙_}
+use Prim.Native.Nat.{_≤_, _-_}
+use lib.ListN.{length, length-set}
+use Rattle.workspace.proofs.Moving.{moving, moving-start, moving-next, moving-more, moving-end}
 use native.Mathlib.Omega.{arith}
 use Rattle.workspace.proofs.move_words.Statement.{statement}
 use Rattle.workspace.proofs.move_words.Tie as tie
 
 abbrev Inv-loop : tie.InvT-loop
-Inv-loop part₀ src₀ i₀ part src i =
-    (i ≤ length part₀) × (length part ≡ length part₀) × (length src ≡ length src₀) × (part ≡ mix i src₀ part₀) × (src ≡ mix i (zeros (length src₀)) src₀)
+Inv-loop vals₀ to from n i₀ vals i = (i ≤ n) × (length vals ≡ length vals₀) × (vals ≡ moving to from n vals₀ i)
 
 abbrev μ-loop : tie.MeasureT-loop
-μ-loop part₀ src₀ i₀ part src i = length part₀ - i
+μ-loop vals₀ to from n i₀ vals i = n - i
 
 loop-holds : tie.Need-loop-holds Inv-loop μ-loop
-loop-holds c = (omega arith, refl, refl, refl, refl)
+loop-holds c = (omega arith, refl, moving-start (c .args .to) (c .args .from) (c .args .n) (c .args .vals .now) (c .pre .0) (c .pre .1))
+
+add-v : tie.Need-add-v Inv-loop μ-loop
+add-v c = omega arith
 
 mul-v : tie.Need-mul-v Inv-loop μ-loop
 mul-v c = omega arith
@@ -26,17 +25,23 @@ mul-v c = omega arith
 slice-read-v : tie.Need-slice-read-v Inv-loop μ-loop
 slice-read-v c = omega arith
 
-mul-part : tie.Need-mul-part Inv-loop μ-loop
-mul-part c = omega arith
+add-vals : tie.Need-add-vals Inv-loop μ-loop
+add-vals c = omega arith
 
-slice-write-part : tie.Need-slice-write-part Inv-loop μ-loop
-slice-write-part c = omega arith
+mul-vals : tie.Need-mul-vals Inv-loop μ-loop
+mul-vals c = omega arith
 
-mul-src : tie.Need-mul-src Inv-loop μ-loop
-mul-src c = omega arith
+slice-write-vals : tie.Need-slice-write-vals Inv-loop μ-loop
+slice-write-vals c = omega arith
 
-slice-write-src : tie.Need-slice-write-src Inv-loop μ-loop
-slice-write-src c = omega arith
+add-vals-2 : tie.Need-add-vals-2 Inv-loop μ-loop
+add-vals-2 c = omega arith
+
+mul-vals-2 : tie.Need-mul-vals-2 Inv-loop μ-loop
+mul-vals-2 c = omega arith
+
+slice-write-vals-2 : tie.Need-slice-write-vals-2 Inv-loop μ-loop
+slice-write-vals-2 c = simp length-set (omega arith)
 
 add-i : tie.Need-add-i Inv-loop μ-loop
 add-i c = omega arith
@@ -47,32 +52,21 @@ loop-less c = omega arith
 loop-again : tie.Need-loop-again Inv-loop μ-loop
 loop-again c =
     let k = c .before .before in
-    let b = k .before .args .part .now in
-    let a = k .before .args .src .now in
+    let s = k .before in
     let i = k .loop .i in
     let q = k .loop .inv in
-    let n = zeros-long (length a) in
-    let same = k .before .pre in (
-      omega arith,
-      simp length-set (omega arith),
-      simp length-set (omega arith),
-      rw (q .3) (mix-more i _ a b (omega arith) (omega arith) (sym (ap (λ (u : List ℕ). getD u i 0) (q .4) ∙ mix-get-high i i (zeros (length a)) a (omega arith) (omega arith) (omega arith)))),
-      rw (q .4) (mix-more i 0 (zeros (length a)) a (omega arith) (omega arith) (getD-replicate (length a) i 0 0 (omega arith))),
-    )
+    let l = c .before .loop-test .taken in
+    let next = moving-next (s .args .to) (s .args .from) (s .args .n) (s .args .vals .now) (s .pre .0) (s .pre .1) i l in
+    (omega arith, simp length-set (q .1), rw (q .2) (moving-more (s .args .to) (s .args .from) (s .args .n) (s .args .vals .now) (s .pre .0) (s .pre .1) i l _ (sym next)))
 
 same-length : tie.Need-same-length Inv-loop μ-loop
 same-length c = omega arith
 
-same-length-2 : tie.Need-same-length-2 Inv-loop μ-loop
-same-length-2 c = omega arith
-
 returns : tie.Need-returns Inv-loop μ-loop
 returns c =
     let k = c .before in
-    let b = k .before .args .part .now in
-    let a = k .before .args .src .now in
-    let q = k .loop .inv in
-    (q .3 ∙ mix-all (k .loop .i) a b (sym (k .before .pre)) (omega arith), q .4 ∙ mix-all (k .loop .i) (zeros (length a)) a (zeros-long (length a)) (omega (arith, k .before .pre)))
+    let s = k .before in
+    k .loop .inv .2 ∙ moving-end (s .args .to) (s .args .from) (s .args .n) (s .args .vals .now) (s .pre .0) (s .pre .1) (k .loop .i) (omega arith)
 
 pub move-words-spec : {M : Type 1} → statement M
 move-words-spec =
@@ -81,15 +75,17 @@ move-words-spec =
     Inv-loop
     μ-loop
     loop-holds
+    add-v
     mul-v
     slice-read-v
-    mul-part
-    slice-write-part
-    mul-src
-    slice-write-src
+    add-vals
+    mul-vals
+    slice-write-vals
+    add-vals-2
+    mul-vals-2
+    slice-write-vals-2
     add-i
     loop-less
     loop-again
     same-length
-    same-length-2
     returns)
