@@ -1,7 +1,7 @@
 -- A command on tables that stand with their counts. Assumes nothing.
 use mathlib.Core.Path.{_≡_, sym, ap, _∙_}
 use mathlib.Core.List.{List}
-use Prim.Native.Nat.{ℕ, _+_, _-_, _≤_, _<_}
+use Prim.Native.Nat.{ℕ, _-_, _≤_, _<_}
 use native.Mathlib.Omega.{arith}
 use lib.ListN.{length, length-append}
 use Rattle.expression.specs.declared.Command.{Command}
@@ -24,9 +24,9 @@ counts-all : {X : Type 0} (n : ℕ) (ts : List (List X)) → length ts ≤ n →
 unfolding countsOf
 counts-all n ts l = length-append (stackCounts ts) (zeros (n - length ts)) ∙ omega (arith, counts-long ts, zeros-long (n - length ts))
 
-module _ {carry : Carry} {d w p : ℕ} {ts : List (List Entry)} {beyond ws vals counts : List ℕ} (h : Stands carry d w p ts beyond ws vals counts) (within : d ≤ depthLimit + 1) where
+module _ {carry : Carry} {d w p : ℕ} {ts : List (List Entry)} {beyond ws vals counts : List ℕ} (h : Stands carry d w p ts beyond ws vals counts) where
   deep : length ts ≤ depthLimit
-  deep = omega (arith, h .holds .free)
+  deep = omega (arith, h .holds .free, h .areas)
 
   pub eight : length counts ≡ depthLimit
   eight = ap length (h .tallies) ∙ counts-all depthLimit ts deep
@@ -45,7 +45,7 @@ module _ {carry : Carry} {d w p : ℕ} {ts : List (List Entry)} {beyond ws vals 
 
     module _ (c : Command) (m : Meets c d t) where
       applies : Applies (effect c) t depthLimit
-      applies = (m .0, omega (arith, e, deep), omega (arith, m .1))
+      applies = (m .0, omega (arith, e, deep), omega (arith, m .1, h .areas))
 
       pub counts-apply : Applies (effect c) t (length counts)
       counts-apply = rw eight applies
@@ -58,6 +58,7 @@ module _ {carry : Carry} {d w p : ℕ} {ts : List (List Entry)} {beyond ws vals 
           stands = λ l. record {
             holds = g .holds l;
             tallies = told l ∙ rw (h .tallies, sym (g .count l)) (tally-does depthLimit t (effect c) (act B a c) (act-does B a c) ts e applies);
+            areas = h .areas;
           };
           same = λ l. (g .same l, same l);
         }

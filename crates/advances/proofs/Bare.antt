@@ -1,11 +1,11 @@
 -- Tables of pairs as tables that carry nothing: each pair with no value. Assumes nothing.
 use mathlib.Core.Path.{_≡_, refl, sym, ap, ap₂, _∙_}
 use mathlib.Core.List.{List, [], _∷_, map}
-use Prim.Native.Nat.{ℕ, _<_}
+use Prim.Native.Nat.{ℕ, _≤_, _<_}
 use native.Mathlib.Omega.{arith}
 use lib.ListN.{length, replicate, length-map}
 use Rattle.lists.specs.Lists.{All}
-use Rattle.expression.specs.Limits.{depthLimit}
+use Rattle.expression.specs.Limits.{depthLimit, areaCount}
 use Rattle.tables.specs.Definitions.{Pair}
 use Rattle.values.specs.declared.Value.{Value}
 use Rattle.values.specs.Values.{noValue}
@@ -54,6 +54,7 @@ pub stands-any : {d w p : ℕ} {us : List (List Entry)} {beyond ws counts : List
 stands-any {d} {p = p} {us = us} vals vals' h = record {
   holds = record { words = h .holds .words; sound = h .holds .sound; free = h .holds .free; values = held-any p us vals vals' (h .holds .values); roomy = roomy-nothing d p vals' };
   tallies = h .tallies;
+  areas = h .areas;
 }
 
 pub advanced-any : {d w p : ℕ} {us : List (List Entry)} {beyond : List ℕ} {r : ℕ} {ws counts ws' counts' : List ℕ} (vals vals' : List ℕ)
@@ -61,8 +62,8 @@ pub advanced-any : {d w p : ℕ} {us : List (List Entry)} {beyond : List ℕ} {r
 advanced-any vals vals' h = record { most = h .most; fault = h .fault; stands = λ l. stands-any vals vals' (h .stands l); same = h .same }
 
 module _ (d w p : ℕ) (ts : List (List Pair)) (beyond ws counts : List ℕ) where
-  pub stands-bare : ws ≡ workspaceOf d w p ts beyond → All (Sound w p) ts → length ts < d → counts ≡ countsOf depthLimit ts → Stands Nothing d w p (map bare ts) beyond ws [] counts
-  stands-bare e s l k =
+  pub stands-bare : ws ≡ workspaceOf d w p ts beyond → All (Sound w p) ts → length ts < d → d ≤ areaCount → counts ≡ countsOf depthLimit ts → Stands Nothing d w p (map bare ts) beyond ws [] counts
+  stands-bare e s l m k =
       let h : Holds Nothing d w p (map bare ts) beyond ws [] = record {
         words = e ∙ sym (ap (λ (u : List (List Pair)). workspaceOf d w p u beyond) (bare-tables ts));
         sound = sound-bare w p ts s;
@@ -70,4 +71,4 @@ module _ (d w p : ℕ) (ts : List (List Pair)) (beyond ws counts : List ℕ) whe
         values = held-bare p ts [];
         roomy = roomy-nothing d p [];
       } in
-      record { holds = h; tallies = k ∙ sym (ap (countsOf depthLimit) (bare-tables ts)) ∙ counts-pairs depthLimit (map bare ts) }
+      record { holds = h; tallies = k ∙ sym (ap (countsOf depthLimit) (bare-tables ts)) ∙ counts-pairs depthLimit (map bare ts); areas = m }

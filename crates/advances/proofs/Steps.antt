@@ -1,4 +1,4 @@
--- One command of a walk over tables: what it meets, and where the walk goes. Assumes nothing.
+-- One command of a walk over tables: where the walk goes. Assumes nothing.
 use mathlib.Core.Path.{_≡_, refl}
 use mathlib.Core.Bool.{Bool, true, false, cond}
 use mathlib.Core.List.{List, [], _∷_}
@@ -7,20 +7,11 @@ use native.Mathlib.Omega.{arith}
 use lib.Dec.{ltb}
 use borrow.Author.Tests.{lt-ltb, le-ltb}
 use Rattle.expression.specs.declared.Command.{Command}
-use Rattle.expression.specs.declared.Counts.{Counts}
-use Rattle.expression.specs.Limits.{depthLimit}
 use Rattle.expression.specs.Refusals.{subsetsFull, plansFull}
-use Rattle.expression.specs.Reading.{newAtoms, counted, countFault, Placed}
-use Rattle.expression.proofs.Totals.{Limited, counted-limited, passes-needs}
+use Rattle.expression.specs.Reading.{newAtoms, Placed}
 use Rattle.semantics.specs.Expressions.{Operations, act}
 use Rattle.decisions.specs.Decisions.{stopped, walked, newest, walk}
 use Rattle.workspace.specs.Workspace.{faultOf}
-use Rattle.operations.specs.Operations.{Meets}
-
--- a command that passes 9 to 11 meets what it needs
-pub passes-meets : (n : Counts) (c : Command) → countFault n c ≡ 0 → Limited n → Meets c (depthLimit + 1) (n .depth)
-unfolding counted
-passes-meets n c f l = let k = counted-limited n c f l in (passes-needs n c f, omega (arith, k .depth))
 
 -- ---- the walk
 

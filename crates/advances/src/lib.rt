@@ -2,18 +2,16 @@
 use commands::effects::effect;
 use entries::Carry;
 use expression::Command;
-use expression::limits::DEPTH_LIMIT;
 use expression::refusals::PLANS_FULL;
 use expression::refusals::SUBSETS_FULL;
 use leaves::Atom;
 use leaves::Tables;
 ghost use mathlib.Core.Path.{_≡_};
 ghost use mathlib.Core.List.{List};
-ghost use Prim.Native.Nat.{ℕ, _+_, _-_, _*_, _≤_, _<_};
+ghost use Prim.Native.Nat.{ℕ, _+_, _-_, _≤_, _<_};
 ghost use lib.ListN.{length};
 ghost use Rattle.labels.specs.Labels.{labelCount};
 ghost use Rattle.expression.specs.Commands.{Suits};
-ghost use Rattle.expression.specs.Limits.{depthLimit};
 ghost use Rattle.semantics.specs.Expressions.{act};
 ghost use Rattle.semantics.specs.AnswerSets.{Assumptions};
 ghost use Rattle.tables.specs.Algebras.{tables};
@@ -24,9 +22,6 @@ ghost use Rattle.workspace.specs.Workspace.{faultOf};
 ghost use Rattle.operations.specs.Operations.{Meets};
 ghost use Rattle.advances.specs.Advances.{Stands, Advanced};
 ghost use Rattle.advances.specs.Bare.{SomeStand, Advances};
-
-// One area for each table, and scratch.
-pub const AREAS: usize = DEPTH_LIMIT as usize + 1;
 
 // 15 or 16, by the count that a command answers.
 pub fn fault_of(p: usize, r: usize) -> u64
@@ -55,7 +50,7 @@ pub fn advance(
     c: Command,
     atom: Atom,
 ) -> usize
-    requires { ⌜ Wide kind w × (w ≤ 4096) × (1 ≤ p) × (p ≤ 1024) × (d ≤ depthLimit + 1) × (length (now row) ≡ w) × (p ≤ length (now index)) ⌝ }
+    requires { ⌜ Wide kind w × (w ≤ 4096) × (1 ≤ p) × (p ≤ 1024) × (length (now row) ≡ w) × (p ≤ length (now index)) ⌝ }
     requires { ⌜ Suits labelCount c × Meets c d t × Resolved carry atom ⌝ }
     requires { ⌜ ((ts : List (List Entry)) × (beyond : List ℕ) × Stands carry d w p ts beyond (now ws) (now vals) (now counts) × (length ts ≡ t)) ⌝ }
     ensures { λ r. ⌜ ((o : Assumptions) (a : ℕ) → atom ≡ atomAt carry o a → (ts : List (List Entry)) (beyond : List ℕ) → Stands carry d w p ts beyond (now (ws .entry)) (now (vals .entry)) (now (counts .entry)) → length ts ≡ t → Advanced carry d w p (act (tables (tableAlgebra kind carry) o) a c ts) beyond r (now (ws .entry)) (now (counts .entry)) (now (ws .exit)) (now (vals .exit)) (now (counts .exit))) ⌝ }
@@ -69,13 +64,14 @@ pub fn advance(
     r
 }
 
-// A command on t tables, whose counts follow, in arrays that are long enough. The answer is as advance's.
+// A command on t tables in d areas, whose counts follow, in arrays that are long enough. The answer is as advance's.
 fn advance_in(
     ws: &mut [u32],
     row: &mut [u32],
     index: &mut [u32],
     vals: &mut [u64],
     counts: &mut [u64],
+    d: usize,
     w: usize,
     p: usize,
     t: usize,
@@ -83,8 +79,8 @@ fn advance_in(
     atom: Atom,
 ) -> usize
     requires { ⌜ (3 ≤ w) × (w ≤ 1026) × (1 ≤ p) × (p ≤ 1024) × (w ≤ length (now row)) × (p ≤ length (now index)) ⌝ }
-    requires { ⌜ Suits labelCount c × Meets c (depthLimit + 1) t × Resolved Nothing atom × SomeStand w p t (now ws) (now counts) ⌝ }
-    ensures { λ r. ⌜ ((o : Assumptions) (a : ℕ) → atom ≡ atomAt Nothing o a → Advances w p t c a o r (now (ws .entry)) (now (counts .entry)) (now (ws .exit)) (now (counts .exit))) ⌝ }
+    requires { ⌜ Suits labelCount c × Meets c d t × Resolved Nothing atom × SomeStand d w p t (now ws) (now counts) ⌝ }
+    ensures { λ r. ⌜ ((o : Assumptions) (a : ℕ) → atom ≡ atomAt Nothing o a → Advances d w p t c a o r (now (ws .entry)) (now (counts .entry)) (now (ws .exit)) (now (counts .exit))) ⌝ }
 {
     advance(
         ws,
@@ -94,7 +90,7 @@ fn advance_in(
         counts,
         Tables::Pairs,
         Carry::Nothing,
-        AREAS,
+        d,
         w,
         p,
         t,
@@ -107,6 +103,7 @@ fn advance_in(
 pub fn advance_here(
     ws: &mut [u32],
     counts: &mut [u64],
+    d: usize,
     w: usize,
     p: usize,
     t: usize,
@@ -114,8 +111,8 @@ pub fn advance_here(
     atom: Atom,
 ) -> usize
     requires { ⌜ (3 ≤ w) × (w ≤ 1026) × (1 ≤ p) × (p ≤ 1024) ⌝ }
-    requires { ⌜ Suits labelCount c × Meets c (depthLimit + 1) t × Resolved Nothing atom × SomeStand w p t (now ws) (now counts) ⌝ }
-    ensures { λ r. ⌜ ((o : Assumptions) (a : ℕ) → atom ≡ atomAt Nothing o a → Advances w p t c a o r (now (ws .entry)) (now (counts .entry)) (now (ws .exit)) (now (counts .exit))) ⌝ }
+    requires { ⌜ Suits labelCount c × Meets c d t × Resolved Nothing atom × SomeStand d w p t (now ws) (now counts) ⌝ }
+    ensures { λ r. ⌜ ((o : Assumptions) (a : ℕ) → atom ≡ atomAt Nothing o a → Advances d w p t c a o r (now (ws .entry)) (now (counts .entry)) (now (ws .exit)) (now (counts .exit))) ⌝ }
 {
     let mut row = [0u32; 1026];
     let mut index = [0u32; 1024];
@@ -126,6 +123,7 @@ pub fn advance_here(
         &mut index,
         &mut vals,
         counts,
+        d,
         w,
         p,
         t,

@@ -120,4 +120,5 @@ module _ {carry : Carry} {d w p t : ℕ} {ts : List (List Entry)} {beyond ws val
   changed-stands f g l told = record {
     holds = g .holds l;
     tallies = told ∙ rw (h .tallies, sym (g .count l)) (tally-does depthLimit t Change (changeNewest f) (f, λ us. refl) ts e (one, within, within));
+    areas = h .areas;
   }

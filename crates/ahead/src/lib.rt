@@ -1,14 +1,12 @@
 // The commands ahead in an expression that may be done at once, done on the newest table of a workspace.
-use advances::AREAS;
 use entries::Carry;
 use expression::Counts;
 use expression::Effect;
 use stretches::Stretch;
 ghost use mathlib.Core.Path.{_≡_};
 ghost use mathlib.Core.List.{List};
-ghost use Prim.Native.Nat.{ℕ, _+_, _*_, _≤_};
+ghost use Prim.Native.Nat.{ℕ, _≤_};
 ghost use lib.ListN.{length};
-ghost use Rattle.expression.specs.Limits.{depthLimit};
 ghost use Rattle.semantics.specs.Expressions.{changeNewest};
 ghost use Rattle.batches.specs.Batches.{batchLimit, commandsOf};
 ghost use Rattle.entries.specs.Carries.{Entry};
@@ -16,7 +14,7 @@ ghost use Rattle.maps.specs.Maps.{batchedTable};
 ghost use Rattle.advances.specs.Advances.{Stands};
 ghost use Rattle.ahead.specs.Ahead.{Ahead};
 
-// The commands that the words of ops stand for, at once on the newest of t tables, and its count.
+// The commands that the words of ops stand for, at once on the newest of t tables in d areas, and its count.
 fn map_ahead(
     ws: &mut [u32],
     row: &mut [u32],
@@ -24,17 +22,18 @@ fn map_ahead(
     vals: &mut [u64],
     counts: &mut [u64],
     carry: Carry,
+    d: usize,
     w: usize,
     p: usize,
     t: usize,
     ops: &[u32],
 )
     requires { ⌜ (2 ≤ w) × (w ≤ 4096) × (p ≤ 1024) × (length (now row) ≡ w) × (p ≤ length (now index)) × (length (now ops) ≤ batchLimit) ⌝ }
-    requires { ⌜ (1 ≤ t) × ((ts : List (List Entry)) × (beyond : List ℕ) × Stands carry (depthLimit + 1) w p ts beyond (now ws) (now vals) (now counts) × (length ts ≡ t)) ⌝ }
-    ensures { λ _. ⌜ ((ts : List (List Entry)) (beyond : List ℕ) → Stands carry (depthLimit + 1) w p ts beyond (now (ws .entry)) (now (vals .entry)) (now (counts .entry)) → length ts ≡ t → Stands carry (depthLimit + 1) w p (changeNewest (batchedTable carry (commandsOf (now (ops .entry)))) ts) beyond (now (ws .exit)) (now (vals .exit)) (now (counts .exit))) ⌝ }
+    requires { ⌜ (1 ≤ t) × ((ts : List (List Entry)) × (beyond : List ℕ) × Stands carry d w p ts beyond (now ws) (now vals) (now counts) × (length ts ≡ t)) ⌝ }
+    ensures { λ _. ⌜ ((ts : List (List Entry)) (beyond : List ℕ) → Stands carry d w p ts beyond (now (ws .entry)) (now (vals .entry)) (now (counts .entry)) → length ts ≡ t → Stands carry d w p (changeNewest (batchedTable carry (commandsOf (now (ops .entry)))) ts) beyond (now (ws .exit)) (now (vals .exit)) (now (counts .exit))) ⌝ }
 {
     let n = stacks::count_below(&counts[..], t, 1);
-    let r = operations::map_newest(ws, row, index, vals, carry, AREAS, w, p, t, n, ops);
+    let r = operations::map_newest(ws, row, index, vals, carry, d, w, p, t, n, ops);
     stacks::tally(counts, Effect::Change, t, r as u64);
 }
 
@@ -51,12 +50,13 @@ pub fn run_ahead(
     vals: &mut [u64],
     counts: &mut [u64],
     carry: Carry,
+    d: usize,
     w: usize,
     p: usize,
 ) -> Stretch
     requires { ⌜ (2 ≤ w) × (w ≤ 4096) × (p ≤ 1024) × (length (now row) ≡ w) × (p ≤ length (now index)) × (length (now ops) ≤ batchLimit) ⌝ }
-    requires { ⌜ ((ts : List (List Entry)) × (beyond : List ℕ) × Stands carry (depthLimit + 1) w p ts beyond (now ws) (now vals) (now counts) × (length ts ≡ n .depth)) ⌝ }
-    ensures { λ r. ⌜ ((ts : List (List Entry)) (beyond : List ℕ) → Stands carry (depthLimit + 1) w p ts beyond (now (ws .entry)) (now (vals .entry)) (now (counts .entry)) → length ts ≡ n .depth → Ahead carry (depthLimit + 1) w p stop at n (now (s .entry)) ts beyond r (now (ws .exit)) (now (vals .exit)) (now (counts .exit))) ⌝ }
+    requires { ⌜ ((ts : List (List Entry)) × (beyond : List ℕ) × Stands carry d w p ts beyond (now ws) (now vals) (now counts) × (length ts ≡ n .depth)) ⌝ }
+    ensures { λ r. ⌜ ((ts : List (List Entry)) (beyond : List ℕ) → Stands carry d w p ts beyond (now (ws .entry)) (now (vals .entry)) (now (counts .entry)) → length ts ≡ n .depth → Ahead carry d w p stop at n (now (s .entry)) ts beyond r (now (ws .exit)) (now (vals .exit)) (now (counts .exit))) ⌝ }
 {
     if n.depth == 0 {
         return Stretch {
@@ -76,6 +76,7 @@ pub fn run_ahead(
         vals,
         counts,
         carry,
+        d,
         w,
         p,
         n.depth as usize,

@@ -1,8 +1,8 @@
 // The grounded decision, as the definitions say it. It has no `requires`.
-use advances::AREAS;
 use checks::checking::check;
 use expression::Checked;
 use expression::Outcome;
+use expression::limits::AREAS;
 ghost use mathlib.Core.Path.{_≡_};
 ghost use lib.ListN.{length};
 ghost use Rattle.labels.specs.Labels.{labelCount};
@@ -30,6 +30,6 @@ pub fn grounded(
     let limit = p as usize;
     let w = g as usize + 2;
     let need = AREAS * (limit * w);
-    let o = engine::decide_pairs(s, ws, w, limit, need, assumed_true, assumed_false);
+    let o = engine::decide_pairs(s, ws, AREAS, w, limit, need, assumed_true, assumed_false);
     engine::shown(o, n.atoms)
 }

@@ -5,18 +5,15 @@ use expression::Outcome;
 use leaves::Tables;
 use walks::Reached;
 ghost use mathlib.Core.Path.{_≡_};
-ghost use Prim.Native.Nat.{_+_, _*_, _≤_};
+ghost use Prim.Native.Nat.{_*_, _≤_};
 ghost use lib.ListN.{length};
-ghost use Rattle.labels.specs.Labels.{labelCount};
-ghost use Rattle.expression.specs.declared.Checked.the-variants.{Passed};
-ghost use Rattle.expression.specs.declared.Counts.{Counts};
-ghost use Rattle.expression.specs.Limits.{depthLimit};
-ghost use Rattle.expression.specs.Checks.{checkBytes};
+ghost use Rattle.expression.specs.Limits.{depthLimit, areaCount};
 ghost use Rattle.semantics.specs.AnswerSets.{byMasks};
 ghost use Rattle.rows.specs.Parts.{zeros};
 ghost use Rattle.leaves.specs.Leaves.{Wide};
 ghost use Rattle.workspace.specs.Workspace.{Roomy};
 ghost use Rattle.stacks.specs.Stacks.{cleared};
+ghost use Rattle.walks.specs.Walks.{Enough};
 ghost use Rattle.deciding.specs.Deciding.{valueOutcome, Decides};
 
 // Yes with the least value, or no.
@@ -29,7 +26,7 @@ fn outcome_of(found: Found) -> Outcome
     }
 }
 
-// All commands on tables of rows of w words, the first `need` words cleared before and after. Yes comes with the least value of what accepts.
+// All commands on tables of rows of w words in d areas, the first `need` words cleared before and after. Yes comes with the least value of what accepts.
 pub fn decide(
     s: &[u8],
     ws: &mut [u32],
@@ -39,6 +36,7 @@ pub fn decide(
     counts: &mut [u64],
     kind: Tables,
     carry: Carry,
+    d: usize,
     w: usize,
     p: usize,
     need: usize,
@@ -46,8 +44,8 @@ pub fn decide(
     assumed_false: u64,
 ) -> Outcome
     requires { ⌜ Wide kind w × (w ≤ 4096) × (1 ≤ p) × (p ≤ 1024) × (length (now row) ≡ w) × (p ≤ length (now index)) ⌝ }
-    requires { ⌜ Roomy carry (depthLimit + 1) p (now vals) × (now counts ≡ zeros depthLimit) ⌝ }
-    requires { ⌜ ((z : Counts) × (checkBytes labelCount (now s) ≡ Passed z)) × (need ≤ length (now ws)) × ((depthLimit + 1) * (p * w) ≤ need) ⌝ }
+    requires { ⌜ Roomy carry d p (now vals) × (now counts ≡ zeros depthLimit) ⌝ }
+    requires { ⌜ Enough d (now s) × (need ≤ length (now ws)) × (d * (p * w) ≤ need) × (d ≤ areaCount) ⌝ }
     ensures { λ r. ⌜ Decides kind carry (byMasks «assumed_true» «assumed_false») w p (now (s .entry)) r ⌝ }
     ensures { λ r. ⌜ now (ws .exit) ≡ cleared need (now (ws .entry)) ⌝ }
 {
@@ -62,6 +60,7 @@ pub fn decide(
         counts,
         kind,
         carry,
+        d,
         w,
         p,
         assumed_true,

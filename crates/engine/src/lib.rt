@@ -2,15 +2,12 @@
 use deciding::decide;
 use entries::Carry;
 use expression::Outcome;
+use expression::limits::AREAS;
 use leaves::Tables;
 ghost use mathlib.Core.Path.{_≡_};
-ghost use Prim.Native.Nat.{_+_, _*_, _≤_};
+ghost use Prim.Native.Nat.{_*_, _≤_};
 ghost use lib.ListN.{length};
-ghost use Rattle.labels.specs.Labels.{labelCount};
-ghost use Rattle.expression.specs.declared.Checked.the-variants.{Passed};
-ghost use Rattle.expression.specs.declared.Counts.{Counts};
-ghost use Rattle.expression.specs.Limits.{atomLimit, depthLimit};
-ghost use Rattle.expression.specs.Checks.{checkBytes};
+ghost use Rattle.expression.specs.Limits.{atomLimit, depthLimit, areaCount};
 ghost use Rattle.semantics.specs.AnswerSets.{byMasks};
 ghost use Rattle.rows.specs.Parts.{zeros};
 ghost use Rattle.entries.specs.declared.Carry.the-variants.{Nothing, First};
@@ -18,6 +15,7 @@ ghost use Rattle.leaves.specs.declared.Tables.the-variants.{Plain, Pairs};
 ghost use Rattle.leaves.specs.Leaves.{Wide};
 ghost use Rattle.workspace.specs.Workspace.{valuesFrom};
 ghost use Rattle.stacks.specs.Stacks.{cleared};
+ghost use Rattle.walks.specs.Walks.{Enough};
 ghost use Rattle.deciding.specs.Deciding.{Decides};
 ghost use Rattle.engine.specs.Engine.{shownOutcome, plainOutcome};
 
@@ -31,6 +29,7 @@ fn decide_in(
     counts: &mut [u64],
     kind: Tables,
     carry: Carry,
+    d: usize,
     w: usize,
     p: usize,
     need: usize,
@@ -38,8 +37,8 @@ fn decide_in(
     assumed_false: u64,
 ) -> Outcome
     requires { ⌜ Wide kind w × (w ≤ 4096) × (1 ≤ p) × (p ≤ 1024) × (w ≤ length (now row)) × (p ≤ length (now index)) ⌝ }
-    requires { ⌜ (now vals ≡ zeros (length (now vals))) × (valuesFrom carry p (depthLimit + 1) ≤ length (now vals)) × (now counts ≡ zeros depthLimit) ⌝ }
-    requires { ⌜ ((z : Counts) × (checkBytes labelCount (now s) ≡ Passed z)) × (need ≤ length (now ws)) × ((depthLimit + 1) * (p * w) ≤ need) ⌝ }
+    requires { ⌜ (now vals ≡ zeros (length (now vals))) × (valuesFrom carry p d ≤ length (now vals)) × (now counts ≡ zeros depthLimit) ⌝ }
+    requires { ⌜ Enough d (now s) × (need ≤ length (now ws)) × (d * (p * w) ≤ need) × (d ≤ areaCount) ⌝ }
     ensures { λ r. ⌜ Decides kind carry (byMasks «assumed_true» «assumed_false») w p (now (s .entry)) r ⌝ }
     ensures { λ r. ⌜ now (ws .exit) ≡ cleared need (now (ws .entry)) ⌝ }
 {
@@ -52,6 +51,7 @@ fn decide_in(
         counts,
         kind,
         carry,
+        d,
         w,
         p,
         need,
@@ -87,6 +87,7 @@ pub fn unshown(o: Outcome) -> Outcome
 pub fn decide_pairs(
     s: &[u8],
     ws: &mut [u32],
+    d: usize,
     w: usize,
     p: usize,
     need: usize,
@@ -94,13 +95,13 @@ pub fn decide_pairs(
     assumed_false: u64,
 ) -> Outcome
     requires { ⌜ (3 ≤ w) × (w ≤ 1026) × (1 ≤ p) × (p ≤ 1024) ⌝ }
-    requires { ⌜ ((z : Counts) × (checkBytes labelCount (now s) ≡ Passed z)) × (need ≤ length (now ws)) × ((depthLimit + 1) * (p * w) ≤ need) ⌝ }
+    requires { ⌜ Enough d (now s) × (need ≤ length (now ws)) × (d * (p * w) ≤ need) × (d ≤ areaCount) ⌝ }
     ensures { λ r. ⌜ Decides Pairs First (byMasks «assumed_true» «assumed_false») w p (now (s .entry)) r ⌝ }
     ensures { λ r. ⌜ now (ws .exit) ≡ cleared need (now (ws .entry)) ⌝ }
 {
     let mut row = [0u32; 1026];
     let mut index = [0u32; 1024];
-    let mut vals = [0u64; 9216];
+    let mut vals = [0u64; AREAS * 1024];
     let mut counts = [0u64; 8];
     decide_in(
         s,
@@ -111,6 +112,7 @@ pub fn decide_pairs(
         &mut counts,
         Tables::Pairs,
         Carry::First,
+        d,
         w,
         p,
         need,
@@ -123,13 +125,14 @@ pub fn decide_pairs(
 pub fn decide_plain(
     s: &[u8],
     ws: &mut [u32],
+    d: usize,
     p: usize,
     need: usize,
     assumed_true: u64,
     assumed_false: u64,
 ) -> Outcome
     requires { ⌜ (1 ≤ p) × (p ≤ 1024) ⌝ }
-    requires { ⌜ ((z : Counts) × (checkBytes labelCount (now s) ≡ Passed z)) × (need ≤ length (now ws)) × ((depthLimit + 1) * (p * 2) ≤ need) ⌝ }
+    requires { ⌜ Enough d (now s) × (need ≤ length (now ws)) × (d * (p * 2) ≤ need) × (d ≤ areaCount) ⌝ }
     ensures { λ r. ⌜ Decides Plain Nothing (byMasks «assumed_true» «assumed_false») 2 p (now (s .entry)) r ⌝ }
     ensures { λ r. ⌜ now (ws .exit) ≡ cleared need (now (ws .entry)) ⌝ }
 {
@@ -146,6 +149,7 @@ pub fn decide_plain(
         &mut counts,
         Tables::Plain,
         Carry::Nothing,
+        d,
         2,
         p,
         need,

@@ -108,12 +108,6 @@ in-none Nothing = refl
 in-none First = refl
 in-none Consequences = refl
 
--- of i tables of p values, and one more
-pub in-row : (carry : Carry) (i p : ℕ) → inWords carry (i * p + p) ≡ i * inWords carry p + inWords carry p
-in-row Nothing i p = omega arith
-in-row First i p = refl
-in-row Consequences i p = omega arith
-
 pub in-most : (carry : Carry) (m : ℕ) → inWords carry m ≤ 2 * m
 in-most Nothing m = omega arith
 in-most First m = omega arith

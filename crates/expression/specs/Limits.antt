@@ -31,6 +31,9 @@ rowWords G = G + 2
 abbrev pub areaWords : ℕ → ℕ → ℕ
 areaWords P G = P * rowWords G
 
--- one area for each operand, and scratch
+-- how many areas a workspace has: one for each operand, and scratch
+abbrev pub areaCount : ℕ
+areaCount = depthLimit + 1
+
 abbrev pub workspaceNeed : ℕ → ℕ → ℕ
-workspaceNeed P G = (depthLimit + 1) * areaWords P G
+workspaceNeed P G = areaCount * areaWords P G

@@ -10,6 +10,9 @@ pub const RULE_LIMIT: u64 = 256;
 // Operands on the stack at a time.
 pub const DEPTH_LIMIT: u64 = 8;
 
+// Areas of a workspace: one for each operand, and scratch.
+pub const AREAS: usize = DEPTH_LIMIT as usize + 1;
+
 // The most that the limits P and G may be.
 pub const TABLE_LIMIT: u64 = 1024;
 

@@ -3,7 +3,7 @@ use entries::Carry;
 ghost use mathlib.Core.Path.{_≡_};
 ghost use Prim.Native.Nat.{_+_, _≤_};
 ghost use lib.ListN.{length};
-ghost use Rattle.expression.specs.Limits.{depthLimit};
+ghost use Rattle.expression.specs.Limits.{depthLimit, areaCount};
 ghost use Rattle.semantics.specs.Expressions.{uniteNewest};
 ghost use Rattle.workspace.specs.Workspace.{valuesFrom};
 ghost use Rattle.operands.specs.Operands.{Ready, Acts, unitedTable};
@@ -30,7 +30,7 @@ pub fn unite_newest(
     n: usize,
     m: usize,
 ) -> usize
-    requires { ⌜ (2 ≤ w) × (w ≤ 4096) × (p ≤ 1024) × (d ≤ depthLimit + 1) × (length (now row) ≡ w) × (p ≤ length (now index)) ⌝ }
+    requires { ⌜ (2 ≤ w) × (w ≤ 4096) × (p ≤ 1024) × (d ≤ areaCount) × (length (now row) ≡ w) × (p ≤ length (now index)) ⌝ }
     requires { ⌜ (2 ≤ t) × Ready carry d w p t n m (now ws) (now vals) ⌝ }
     ensures { λ r. ⌜ Acts carry d w p t n m (uniteNewest (unitedTable carry)) r (now (ws .entry)) (now (vals .entry)) (now (ws .exit)) (now (vals .exit)) ⌝ }
 {

@@ -11,7 +11,7 @@ ghost use Prim.Native.Nat.{ℕ, _+_, _-_, _*_, _≤_, _<_};
 ghost use lib.ListN.{length};
 ghost use Rattle.labels.specs.Labels.{labelCount};
 ghost use Rattle.expression.specs.Commands.{Suits};
-ghost use Rattle.expression.specs.Limits.{depthLimit};
+ghost use Rattle.expression.specs.Limits.{areaCount};
 ghost use Rattle.semantics.specs.Expressions.{act, changeNewest};
 ghost use Rattle.semantics.specs.AnswerSets.{Assumptions};
 ghost use Rattle.tables.specs.Algebras.{tables};
@@ -36,7 +36,7 @@ pub fn map_newest(
     n: usize,
     ops: &[u32],
 ) -> usize
-    requires { ⌜ (2 ≤ w) × (w ≤ 4096) × (p ≤ 1024) × (d ≤ depthLimit + 1) × (length (now row) ≡ w) × (p ≤ length (now index)) × (length (now ops) ≤ batchLimit) ⌝ }
+    requires { ⌜ (2 ≤ w) × (w ≤ 4096) × (p ≤ 1024) × (d ≤ areaCount) × (length (now row) ≡ w) × (p ≤ length (now index)) × (length (now ops) ≤ batchLimit) ⌝ }
     requires { ⌜ (1 ≤ t) × ((m : ℕ) × Ready carry d w p t n m (now ws) (now vals)) ⌝ }
     ensures { λ r. ⌜ (r ≤ p) × ((m : ℕ) → Acts carry d w p t n m (changeNewest (batchedTable carry (commandsOf (now (ops .entry))))) r (now (ws .entry)) (now (vals .entry)) (now (ws .exit)) (now (vals .exit))) ⌝ }
 {
@@ -78,7 +78,7 @@ fn map_by(
     n: usize,
     c: Command,
 ) -> usize
-    requires { ⌜ (2 ≤ w) × (w ≤ 4096) × (p ≤ 1024) × (d ≤ depthLimit + 1) × (length (now row) ≡ w) × (p ≤ length (now index)) ⌝ }
+    requires { ⌜ (2 ≤ w) × (w ≤ 4096) × (p ≤ 1024) × (d ≤ areaCount) × (length (now row) ≡ w) × (p ≤ length (now index)) ⌝ }
     requires { ⌜ Suits labelCount c × Joins c ⌝ }
     requires { ⌜ (1 ≤ t) × ((m : ℕ) × Ready carry d w p t n m (now ws) (now vals)) ⌝ }
     ensures { λ r. ⌜ ((m : ℕ) → Acts carry d w p t n m (changeNewest (mappedTable carry c)) r (now (ws .entry)) (now (vals .entry)) (now (ws .exit)) (now (vals .exit))) ⌝ }
@@ -103,7 +103,7 @@ fn push_atom(
     atom: Atom,
     g: u32,
 ) -> usize
-    requires { ⌜ Wide tables w × (p ≤ 1024) × (d ≤ depthLimit + 1) × (length (now row) ≡ w) × (p ≤ length (now index)) × (g < labelCount) × KeepsBoth carry atom ⌝ }
+    requires { ⌜ Wide tables w × (p ≤ 1024) × (d ≤ areaCount) × (length (now row) ≡ w) × (p ≤ length (now index)) × (g < labelCount) × KeepsBoth carry atom ⌝ }
     requires { ⌜ (t + 1 < d) × ((n : ℕ) × (m : ℕ) × Ready carry d w p t n m (now ws) (now vals)) ⌝ }
     ensures { λ r. ⌜ ((n m : ℕ) → Acts carry d w p t n m (pushed (tableOfAll carry (leafEntries tables atom g))) r (now (ws .entry)) (now (vals .entry)) (now (ws .exit)) (now (vals .exit))) ⌝ }
 {
@@ -144,7 +144,7 @@ fn push_rule(
     t: usize,
     g: u32,
 ) -> usize
-    requires { ⌜ (2 ≤ w) × (1 ≤ p) × (p ≤ 1024) × (d ≤ depthLimit + 1) × (length (now row) ≡ w) × (p ≤ length (now index)) × (g < labelCount) ⌝ }
+    requires { ⌜ (2 ≤ w) × (1 ≤ p) × (p ≤ 1024) × (d ≤ areaCount) × (length (now row) ≡ w) × (p ≤ length (now index)) × (g < labelCount) ⌝ }
     requires { ⌜ (t + 1 < d) × ((n : ℕ) × (m : ℕ) × Ready carry d w p t n m (now ws) (now vals)) ⌝ }
     ensures { λ r. ⌜ ((n m : ℕ) → Acts carry d w p t n m (pushed (tableOfAll carry (tableAlgebra tables carry .unmet g ∷ []))) r (now (ws .entry)) (now (vals .entry)) (now (ws .exit)) (now (vals .exit))) ⌝ }
 {
@@ -186,7 +186,7 @@ pub fn act(
     c: Command,
     atom: Atom,
 ) -> usize
-    requires { ⌜ Wide kind w × (w ≤ 4096) × (1 ≤ p) × (p ≤ 1024) × (d ≤ depthLimit + 1) × (length (now row) ≡ w) × (p ≤ length (now index)) ⌝ }
+    requires { ⌜ Wide kind w × (w ≤ 4096) × (1 ≤ p) × (p ≤ 1024) × (d ≤ areaCount) × (length (now row) ≡ w) × (p ≤ length (now index)) ⌝ }
     requires { ⌜ Suits labelCount c × Meets c d t × Resolved carry atom × Ready carry d w p t n m (now ws) (now vals) ⌝ }
     ensures { λ r. ⌜ ((o : Assumptions) (a : ℕ) → atom ≡ atomAt carry o a → Acts carry d w p t n m (act (tables (tableAlgebra kind carry) o) a c) r (now (ws .entry)) (now (vals .entry)) (now (ws .exit)) (now (vals .exit))) ⌝ }
 {

@@ -1,8 +1,8 @@
 // The plain decision, as the definitions say it. It has no `requires`.
-use advances::AREAS;
 use checks::checking::check;
 use expression::Checked;
 use expression::Outcome;
+use expression::limits::AREAS;
 ghost use mathlib.Core.Path.{_≡_};
 ghost use lib.ListN.{length};
 ghost use Rattle.labels.specs.Labels.{labelCount};
@@ -28,6 +28,6 @@ pub fn plain(
     };
     let limit = p as usize;
     let need = AREAS * (limit * (g as usize + 2));
-    let o = engine::decide_plain(s, ws, limit, need, assumed_true, assumed_false);
+    let o = engine::decide_plain(s, ws, AREAS, limit, need, assumed_true, assumed_false);
     engine::unshown(o)
 }

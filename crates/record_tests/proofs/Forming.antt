@@ -17,12 +17,12 @@ use Rattle.expression.specs.declared.Checked.the-variants.{Passed}
 use Rattle.expression.specs.declared.Located.{Located}
 use Rattle.expression.specs.declared.Located.the-variants.{Before, Nowhere}
 use Rattle.expression.specs.declared.Read.the-variants.{Command as Got}
-use Rattle.expression.specs.Limits.{atomLimit, depthLimit, rowWords}
+use Rattle.expression.specs.Limits.{atomLimit, depthLimit, rowWords, areaCount}
 use Rattle.expression.specs.Commands.{Suits, readAt}
 use Rattle.expression.specs.Reading.{depthAfter, counted, capped}
 use Rattle.expression.specs.Checks.{Request, check}
 use Rattle.expression.specs.Places.{locate}
-use Rattle.expression.proofs.Totals.{counted-limited, capped-limited}
+use Rattle.expression.proofs.Totals.{counted-limited, capped-limited, passes-needs}
 use Rattle.expression.proofs.Accepted.{Accepted, check-accepted}
 use Rattle.semantics.specs.Expressions.{act}
 use Rattle.semantics.proofs.Effects.{act-deep}
@@ -35,17 +35,16 @@ use Rattle.entries.specs.declared.Carry.the-variants.{Nothing}
 use Rattle.workspace.specs.Workspace.{stackCounts, countsOf}
 use Rattle.operations.specs.Operations.{Meets}
 use Rattle.advances.specs.Advances.{Stands}
-use Rattle.advances.proofs.Steps.{passes-meets}
 use Rattle.forms.specs.Forms.{areZero, areTables}
 use Rattle.forms.proofs.Found.{zero-is, found-counts, found-length, found-sound, found-words}
 use Rattle.records.specs.declared.Record.{Record}
 use Rattle.records.specs.Steps.{countsIn, found, isFormed, formedAt}
-use Rattle.record_tests.proofs.Reached.{Here, located-here, here-passes}
+use Rattle.record_tests.proofs.Reached.{Here, located-here, here-passes, here-deepest}
 use Rattle.advances.proofs.Bare.{bare, stands-bare}
 
 -- the areas of t tables are within the words needed
-pub areas-fit : (t k : ℕ) (counts ws : List ℕ) → t ≤ length counts → t ≤ depthLimit → (depthLimit + 1) * k ≤ length ws → length (take t counts) * k ≤ length (take ((depthLimit + 1) * k) ws)
-areas-fit t k counts ws c l m = rw (length-take-le t counts c, length-take-le ((depthLimit + 1) * k) ws m) (mul-le-mul-right k (let z : t ≤ depthLimit + 1 = omega arith in z))
+pub areas-fit : (t d k : ℕ) (counts ws : List ℕ) → t ≤ length counts → t ≤ d → d * k ≤ length ws → length (take t counts) * k ≤ length (take (d * k) ws)
+areas-fit t d k counts ws c l m = rw (length-take-le t counts c, length-take-le (d * k) ws m) (mul-le-mul-right k l)
 
 -- the counts of tables, zeros behind them
 counts-are : (t : ℕ) (counts : List ℕ) (us : List (List Pair)) → stackCounts us ≡ take t counts → length us ≡ t → length counts ≡ depthLimit → areZero (drop t counts) ≡ true → counts ≡ countsOf depthLimit us
@@ -82,7 +81,7 @@ module _ (a : Request) (r : Record) (ws : List ℕ) where
     pub here : Here labelCount (a .bytes) z (r .place) n
     here = located-here labelCount (a .bytes) z (r .place) n (A .joined) located
 
-    tests : (r .tables ≡ n .depth) × (areZero (drop (r .tables) (r .counts)) ≡ true) × (areTables labelCount w p (countsIn labelCount a r) (take ((depthLimit + 1) * (p * w)) ws) ≡ true)
+    tests : (r .tables ≡ n .depth) × (areZero (drop (r .tables) (r .counts)) ≡ true) × (areTables labelCount w p (countsIn labelCount a r) (take (areaCount * (p * w)) ws) ≡ true)
     unfolding isFormed
     tests =
         let f = and-both (eqb (r .tables) (n .depth)) _ (both-tests n (locate labelCount (a .bytes) (r .place)) refl formed .1) in
@@ -101,7 +100,7 @@ module _ (a : Request) (r : Record) (ws : List ℕ) where
     many : length (countsIn labelCount a r) ≡ r .tables
     many = length-take-le (r .tables) (r .counts) (omega (arith, shallow, eight))
 
-    pub long : (depthLimit + 1) * (p * w) ≤ length ws
+    pub long : areaCount * (p * w) ≤ length ws
     long = omega (arith, A .room, room)
 
     pub found-many : length (found labelCount a r ws) ≡ r .tables
@@ -111,13 +110,13 @@ module _ (a : Request) (r : Record) (ws : List ℕ) where
     bare-many = length-map (found labelCount a r ws) bare ∙ found-many
 
     -- the tables found stand
-    pub stands : Stands Nothing (depthLimit + 1) w p (map bare (found labelCount a r ws)) (drop ((depthLimit + 1) * (p * w)) ws) ws [] (r .counts)
+    pub stands : Stands Nothing areaCount w p (map bare (found labelCount a r ws)) (drop (areaCount * (p * w)) ws) ws [] (r .counts)
     stands =
-        let few : length (countsIn labelCount a r) ≤ depthLimit + 1 = omega (arith, many, shallow) in
-        stands-bare (depthLimit + 1) w p (found labelCount a r ws) (drop ((depthLimit + 1) * (p * w)) ws) ws (r .counts)
-        (found-words w p labelCount (depthLimit + 1) (countsIn labelCount a r) ws (tests .2) few long)
-        (found-sound w p labelCount (depthLimit + 1) (countsIn labelCount a r) ws (tests .2) few long)
-        (omega (arith, found-many, shallow))
+        let few : length (countsIn labelCount a r) ≤ areaCount = omega (arith, many, shallow) in
+        stands-bare areaCount w p (found labelCount a r ws) (drop (areaCount * (p * w)) ws) ws (r .counts)
+        (found-words w p labelCount areaCount (countsIn labelCount a r) ws (tests .2) few long)
+        (found-sound w p labelCount areaCount (countsIn labelCount a r) ws (tests .2) few long)
+        (omega (arith, found-many, shallow)) (omega arith)
         (counts-are (r .tables) (r .counts) (found labelCount a r ws) (found-counts w p (countsIn labelCount a r) ws) found-many eight (tests .1))
 
     -- ---- the command at its place
@@ -126,10 +125,10 @@ module _ (a : Request) (r : Record) (ws : List ℕ) where
       pub suits : Suits labelCount c
       suits = read-suits labelCount (a .bytes) (r .place) c next read
 
-      passes-depth : Meets c (depthLimit + 1) (n .depth)
-      passes-depth = passes-meets n c (here-passes labelCount (a .bytes) z here read) (here .1 .1)
+      passes-depth : Meets c areaCount (n .depth)
+      passes-depth = (passes-needs n c (here-passes labelCount (a .bytes) z here read), omega (arith, here-deepest labelCount (a .bytes) z here read, A .joined .limited .deepest))
 
-      pub meets : Meets c (depthLimit + 1) (r .tables)
+      pub meets : Meets c areaCount (r .tables)
       meets = rw deep passes-depth
 
       -- how many tables it leaves

@@ -2,7 +2,7 @@
 use mathlib.Core.Path.{_≡_, refl, subst}
 use mathlib.Core.Bool.{Bool, true, false}
 use mathlib.Core.List.{List}
-use Prim.Native.Nat.{ℕ, zero, suc, _<_}
+use Prim.Native.Nat.{ℕ, zero, suc, _≤_, _<_}
 use native.Mathlib.Omega.{arith}
 use lib.Dec.{eqb}
 use lib.ListN.{length}
@@ -13,11 +13,12 @@ use Rattle.expression.specs.declared.Located.the-variants.{Before, Nowhere}
 use Rattle.expression.specs.declared.Read.{Read}
 use Rattle.expression.specs.declared.Read.the-variants.{Command as Got, Fault}
 use Rattle.expression.specs.Commands.{readAt}
+use Rattle.expression.specs.Effects.{effect, leaves}
 use Rattle.expression.specs.Reading.{noCounts, counted, countFault, Placed}
 use Rattle.expression.specs.Places.{locateFrom, locate}
 use Rattle.expression.proofs.Commands.{read-ends}
 use Rattle.expression.proofs.Checks.{Joined}
-use Rattle.expression.proofs.Remaining.{Remains, remains-start, remains-next}
+use Rattle.expression.proofs.Remaining.{Remains, remains-start, remains-next, next-deepest}
 
 module _ (K : ℕ) (s : List ℕ) (z : Counts) where
   abbrev pub Here : ℕ → Counts → Type 0
@@ -32,6 +33,11 @@ module _ (K : ℕ) (s : List ℕ) (z : Counts) where
     here-passes =
         let N = remains-next K s at n (h .0) z within (h .1) in
         let same : N .command ≡ c = cc (N .read, e) in subst (λ (x : Command). countFault n x ≡ 0) same (N .passes)
+
+    pub here-deepest : leaves (effect c) (n .depth) ≤ z .deepest
+    here-deepest =
+        let N = remains-next K s at n (h .0) z within (h .1) in
+        let same : N .command ≡ c = cc (N .read, e) in subst (λ (x : Command). leaves (effect x) (n .depth) ≤ z .deepest) same (next-deepest K s N)
 
     pub here-next : Here next (counted n c)
     here-next =

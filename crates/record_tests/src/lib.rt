@@ -1,6 +1,6 @@
 // Whether a running record has the form asked for (01: 18), and what stands before its place.
-use advances::AREAS;
 use expression::Located;
+use expression::limits::AREAS;
 use places::locate;
 use records::Record;
 ghost use mathlib.Core.Path.{_≡_};
@@ -9,22 +9,22 @@ ghost use Prim.Native.Nat.{ℕ, _+_, _*_, _≤_};
 ghost use lib.ListN.{length, take, drop};
 ghost use Rattle.labels.specs.Labels.{labelCount};
 ghost use Rattle.expression.specs.declared.Counts.{Counts};
-ghost use Rattle.expression.specs.Limits.{depthLimit};
+ghost use Rattle.expression.specs.Limits.{areaCount};
 ghost use Rattle.expression.specs.declared.Checked.the-variants.{Passed};
 ghost use Rattle.expression.specs.Checks.{check};
 ghost use Rattle.forms.specs.Forms.{areZero, areTables};
 ghost use Rattle.checks.specs.Requests.{request};
 ghost use Rattle.records.specs.Steps.{formedAt};
 
-// Whether t tables of the form asked for stand in the needed words, and counts of no others.
-fn are_found(ws: &[u32], counts: &[u64], t: usize, w: usize, p: usize) -> bool
-    requires { ⌜ (2 ≤ w) × (w ≤ 4096) × (p ≤ 1024) × (t ≤ length (now counts)) × (t ≤ depthLimit) × ((depthLimit + 1) * (p * w) ≤ length (now ws)) ⌝ }
-    ensures { λ r. ⌜ r ≡ (areZero (drop t (now (counts .entry))) && areTables labelCount w p (take t (now (counts .entry))) (take ((depthLimit + 1) * (p * w)) (now (ws .entry)))) ⌝ }
+// Whether t tables of the form asked for stand in d areas, and counts of no others.
+fn are_found(ws: &[u32], counts: &[u64], t: usize, d: usize, w: usize, p: usize) -> bool
+    requires { ⌜ (2 ≤ w) × (w ≤ 4096) × (p ≤ 1024) × (t ≤ length (now counts)) × (t ≤ d) × (d ≤ areaCount) × (d * (p * w) ≤ length (now ws)) ⌝ }
+    ensures { λ r. ⌜ r ≡ (areZero (drop t (now (counts .entry))) && areTables labelCount w p (take t (now (counts .entry))) (take (d * (p * w)) (now (ws .entry)))) ⌝ }
 {
     if !forms::are_zero_counts(&counts[t..]) {
         return false;
     }
-    let need = AREAS * (p * w);
+    let need = d * (p * w);
     table_forms::are_tables(&ws[..need], &counts[..t], w, p)
 }
 
@@ -40,7 +40,14 @@ pub fn formed_at(state: Record, ws: &[u32], s: &[u8], p: u64, g: u64) -> Located
     if state.tables as u64 != n.depth {
         return Located::Nowhere;
     }
-    if !are_found(ws, &state.counts, state.tables, g as usize + 2, p as usize) {
+    if !are_found(
+        ws,
+        &state.counts,
+        state.tables,
+        AREAS,
+        g as usize + 2,
+        p as usize,
+    ) {
         return Located::Nowhere;
     }
     r

@@ -14,7 +14,7 @@ use Rattle.expression.specs.declared.Checked.the-variants.{Passed}
 use Rattle.expression.specs.declared.Located.the-variants.{Before}
 use Rattle.expression.specs.declared.Outcome.the-variants as outcome
 use Rattle.expression.specs.declared.Read.the-variants.{Command as Got}
-use Rattle.expression.specs.Limits.{depthLimit, rowWords, workspaceNeed}
+use Rattle.expression.specs.Limits.{depthLimit, rowWords, workspaceNeed, areaCount}
 use Rattle.expression.specs.Refusals.{badRecord}
 use Rattle.expression.specs.Commands.{readAt}
 use Rattle.expression.specs.Checks.{Request, check}
@@ -95,19 +95,19 @@ module _ (K : ℕ) (a : Request) (us : List (List Pair)) (formed : All (Formed K
   unfolding moves
   is-found =
       ap (λ (ns : List ℕ). tablesIn w p ns (held .words)) (counts-taken depthLimit us)
-      ∙ areas-found K w p (depthLimit + 1) us formed (omega arith) (drop need ws)
+      ∙ areas-found K w p areaCount us formed (omega arith) (drop need ws)
 
   -- another stack in its place
   pub held-again : (next : ℕ) (vs : List (List Pair)) → moves K a next vs (held .words) ≡ moves K a next vs ws
   unfolding moves
-  held-again next vs = rw (areas-dropped K w p (depthLimit + 1) us formed (omega arith) (drop need ws))
+  held-again next vs = rw (areas-dropped K w p areaCount us formed (omega arith) (drop need ws))
 
   module _ (z : Counts) (passed : check K a ≡ Passed z) (n : Counts) (here : locate K (a .bytes) at ≡ Before n) (counted : length us ≡ n .depth) where
     is-formed : isFormed K a n (held .state) (held .words) ≡ true
     unfolding isFormed moves
     is-formed =
-        rw (eq-eqb (length us) (n .depth) counted, counts-dropped depthLimit us, zeros-zero (depthLimit - length us), counts-taken depthLimit us, areas-taken K w p (depthLimit + 1) us formed (omega arith) (drop need ws))
-        (areas-formed K w p (depthLimit + 1) us formed (omega arith))
+        rw (eq-eqb (length us) (n .depth) counted, counts-dropped depthLimit us, zeros-zero (depthLimit - length us), counts-taken depthLimit us, areas-taken K w p areaCount us formed (omega arith) (drop need ws))
+        (areas-formed K w p areaCount us formed (omega arith))
 
     formed-here : formedAt K a (held .state) (held .words) ≡ Before n
     unfolding formedAt moves

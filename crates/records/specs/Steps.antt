@@ -12,7 +12,7 @@ use Rattle.expression.specs.declared.Located.the-variants.{Before, Nowhere}
 use Rattle.expression.specs.declared.Outcome.{Outcome}
 use Rattle.expression.specs.declared.Outcome.the-variants as outcome
 use Rattle.expression.specs.declared.Read.the-variants.{Command as Got, Fault}
-use Rattle.expression.specs.Limits.{depthLimit, rowWords, workspaceNeed}
+use Rattle.expression.specs.Limits.{depthLimit, rowWords, workspaceNeed, areaCount}
 use Rattle.expression.specs.Refusals.{badRecord}
 use Rattle.expression.specs.Commands.{readAt}
 use Rattle.expression.specs.Checks.{Request, check}
@@ -70,7 +70,7 @@ module _ (K : ℕ) (a : Request) where
   moves next us ws = record {
     state = record { place = next; tables = length us; counts = countsOf depthLimit us };
     answer = Moved;
-    words = workspaceOf (depthLimit + 1) (rowWords (a .subsetLimit)) (a .pairLimit) us (drop need ws);
+    words = workspaceOf areaCount (rowWords (a .subsetLimit)) (a .pairLimit) us (drop need ws);
   }
 
   -- a command that leaves the tables us: 15, 16, or it is done

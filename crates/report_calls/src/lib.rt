@@ -1,8 +1,8 @@
 // The reports of the library, as the definitions say them. None has a `requires`.
-use advances::AREAS;
 use checks::checking::check;
 use expression::Checked;
 use expression::Located;
+use expression::limits::AREAS;
 use expression::refusals::OFFSET;
 use leaves::Tables;
 use places::locate;
@@ -73,6 +73,7 @@ pub fn report(
         ws,
         out,
         Tables::Pairs,
+        AREAS,
         w,
         limit,
         need,
@@ -111,6 +112,7 @@ pub fn plain_report(
         ws,
         out,
         Tables::Plain,
+        AREAS,
         2,
         limit,
         need,

@@ -7,17 +7,13 @@ use walks::Reached;
 ghost use mathlib.Core.Path.{_≡_};
 ghost use Prim.Native.Nat.{_+_, _*_, _≤_, _<_};
 ghost use lib.ListN.{length};
-ghost use Rattle.labels.specs.Labels.{labelCount};
-ghost use Rattle.expression.specs.declared.Checked.the-variants.{Passed};
-ghost use Rattle.expression.specs.declared.Counts.{Counts};
-ghost use Rattle.expression.specs.Limits.{depthLimit};
-ghost use Rattle.expression.specs.Checks.{checkBytes};
+ghost use Rattle.expression.specs.Limits.{depthLimit, areaCount};
 ghost use Rattle.semantics.specs.AnswerSets.{byMasks};
 ghost use Rattle.rows.specs.Parts.{zeros};
 ghost use Rattle.entries.specs.declared.Carry.the-variants.{Nothing};
 ghost use Rattle.leaves.specs.Leaves.{Wide};
 ghost use Rattle.workspace.specs.Workspace.{pairsOf};
-ghost use Rattle.walks.specs.Walks.{walkTo};
+ghost use Rattle.walks.specs.Walks.{Enough, walkTo};
 ghost use Rattle.reports.specs.Reports.{reportOf};
 ghost use Rattle.stacks.specs.Stacks.{cleared};
 ghost use Rattle.reporting.specs.Reporting.{newestIn, reportAnswer, reportBuffer};
@@ -33,6 +29,7 @@ pub fn tabulate(
     vals: &mut [u64],
     counts: &mut [u64],
     kind: Tables,
+    d: usize,
     w: usize,
     p: usize,
     need: usize,
@@ -41,7 +38,7 @@ pub fn tabulate(
 ) -> Report
     requires { ⌜ Wide kind w × (w ≤ 4096) × (1 ≤ p) × (p ≤ 1024) × (length (now row) ≡ w) × (p ≤ length (now index)) ⌝ }
     requires { ⌜ (now counts ≡ zeros depthLimit) × (asked < length (now s)) ⌝ }
-    requires { ⌜ ((z : Counts) × (checkBytes labelCount (now s) ≡ Passed z)) × (need ≤ length (now ws)) × ((depthLimit + 1) * (p * w) ≤ need) ⌝ }
+    requires { ⌜ Enough d (now s) × (need ≤ length (now ws)) × (d * (p * w) ≤ need) × (d ≤ areaCount) ⌝ }
     ensures { λ r. ⌜ r ≡ reportAnswer (λ x. reportOf kind (pairsOf x)) (length (now (out .entry))) asked (newestIn (walkTo kind Nothing (byMasks «assumed_true» «assumed_false») w p (asked + 1) (now (s .entry)))) ⌝ }
     ensures { λ r. ⌜ now (out .exit) ≡ reportBuffer (λ x. reportOf kind (pairsOf x)) (now (out .entry)) (newestIn (walkTo kind Nothing (byMasks «assumed_true» «assumed_false») w p (asked + 1) (now (s .entry)))) ⌝ }
     ensures { λ r. ⌜ now (ws .exit) ≡ cleared need (now (ws .entry)) ⌝ }
@@ -57,6 +54,7 @@ pub fn tabulate(
         counts,
         kind,
         Carry::Nothing,
+        d,
         w,
         p,
         assumed_true,

@@ -5,7 +5,6 @@ use Prim.Native.Nat.{ℕ, _+_, _-_, _*_, _≤_, _<_}
 use native.Mathlib.Omega.{arith}
 use lib.ListN.{length, drop}
 use borrow.Author.Tests.{lt-ltb, le-ltb}
-use Rattle.expression.specs.Limits.{depthLimit}
 use Rattle.expression.specs.Refusals.{reportShort}
 use Rattle.decisions.specs.Decisions.{newest}
 use Rattle.rows.specs.Parts.{part}
@@ -21,9 +20,9 @@ use Rattle.advances.proofs.Advancing.{loaded}
 use Rattle.reporting.specs.declared.Report.the-variants.{Written, Refused}
 use Rattle.reporting.specs.Reporting.{tableAt, reportAnswer, reportBuffer}
 
-module _ {w p : ℕ} {us : List (List Entry)} {beyond ws vals counts : List ℕ} (h : Stands Nothing (depthLimit + 1) w p us beyond ws vals counts) (t : ℕ) (e : length us ≡ t) (n : ℕ) (en : n ≡ countBelow t 1 counts) where
-  load : Loaded Nothing (depthLimit + 1) w p t n (countBelow t 2 counts) us beyond ws vals
-  load = loaded h (omega arith) t e n (countBelow t 2 counts) en refl
+module _ {d w p : ℕ} {us : List (List Entry)} {beyond ws vals counts : List ℕ} (h : Stands Nothing d w p us beyond ws vals counts) (t : ℕ) (e : length us ≡ t) (n : ℕ) (en : n ≡ countBelow t 1 counts) where
+  load : Loaded Nothing d w p t n (countBelow t 2 counts) us beyond ws vals
+  load = loaded h t e n (countBelow t 2 counts) en refl
 
   pub many : length (newest us) ≡ n
   many = load .newer

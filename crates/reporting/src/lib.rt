@@ -3,9 +3,8 @@ use expression::refusals::REPORT_SHORT;
 use leaves::Tables;
 ghost use mathlib.Core.Path.{_≡_};
 ghost use mathlib.Core.List.{List};
-ghost use Prim.Native.Nat.{ℕ, _+_, _≤_};
+ghost use Prim.Native.Nat.{ℕ, _≤_};
 ghost use lib.ListN.{length};
-ghost use Rattle.expression.specs.Limits.{depthLimit};
 ghost use Rattle.entries.specs.declared.Carry.the-variants.{Nothing};
 ghost use Rattle.entries.specs.Carries.{Entry};
 ghost use Rattle.decisions.specs.Decisions.{newest};
@@ -32,8 +31,8 @@ pub fn report_newest(
     asked: usize,
 ) -> Report
     requires { ⌜ (2 ≤ w) × (w ≤ 4096) × (p ≤ 1024) × (1 ≤ t) ⌝ }
-    requires { ⌜ ((us : List (List Entry)) × (beyond : List ℕ) × (vals : List ℕ) × Stands Nothing (depthLimit + 1) w p us beyond (now ws) vals (now counts) × (length us ≡ t)) ⌝ }
-    ensures { λ r. ⌜ ((us : List (List Entry)) (beyond vals : List ℕ) → Stands Nothing (depthLimit + 1) w p us beyond (now (ws .entry)) vals (now (counts .entry)) → length us ≡ t → (r ≡ reportAnswer (λ x. reportOf kind (pairsOf x)) (length (now (out .entry))) asked (tableAt (newest us))) × (now (out .exit) ≡ reportBuffer (λ x. reportOf kind (pairsOf x)) (now (out .entry)) (tableAt (newest us)))) ⌝ }
+    requires { ⌜ ((d : ℕ) × (us : List (List Entry)) × (beyond : List ℕ) × (vals : List ℕ) × Stands Nothing d w p us beyond (now ws) vals (now counts) × (length us ≡ t)) ⌝ }
+    ensures { λ r. ⌜ ((d : ℕ) (us : List (List Entry)) (beyond vals : List ℕ) → Stands Nothing d w p us beyond (now (ws .entry)) vals (now (counts .entry)) → length us ≡ t → (r ≡ reportAnswer (λ x. reportOf kind (pairsOf x)) (length (now (out .entry))) asked (tableAt (newest us))) × (now (out .exit) ≡ reportBuffer (λ x. reportOf kind (pairsOf x)) (now (out .entry)) (tableAt (newest us)))) ⌝ }
 {
     let n = stacks::count_below(counts, t, 1);
     let a = (t - 1) * (p * w);

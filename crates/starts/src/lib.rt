@@ -1,7 +1,7 @@
 // Starting a walk of one command a call, with the running record by value, and what a refused check answers. No public function has a `requires`.
-use advances::AREAS;
 use checks::checking::check;
 use expression::Checked;
+use expression::limits::AREAS;
 use records::Progress;
 use records::Record;
 use records::Stepped;

@@ -6,7 +6,7 @@ use native.Mathlib.Omega.{arith}
 use lib.ListN.{length, drop}
 use Rattle.labels.specs.Labels.{labelCount}
 use Rattle.expression.specs.declared.Command.{Command}
-use Rattle.expression.specs.Limits.{depthLimit}
+use Rattle.expression.specs.Limits.{depthLimit, areaCount}
 use Rattle.expression.specs.Checks.{Request}
 use Rattle.semantics.specs.Expressions.{act}
 use Rattle.semantics.specs.AnswerSets.{byMasks}
@@ -53,7 +53,7 @@ module _ (a : Request) (n : ℕ) (c : Command) (ts : List (List Pair)) where
   p = a .pairLimit
 
   abbrev d : ℕ
-  d = depthLimit + 1
+  d = areaCount
 
   module _ {beyond : List ℕ} {k : ℕ} {ws counts ws' vals' counts' : List ℕ} (h : Advanced Nothing d w p made beyond k ws counts ws' vals' counts') where
     same-fault : pairsFault p (a .subsetLimit) (newest meant) ≡ faultOf p k

@@ -8,6 +8,7 @@ use expression::Checked;
 use expression::Counts;
 use expression::Located;
 use expression::Read;
+use expression::limits::AREAS;
 use expression::refusals::BAD_RECORD;
 use leaves::atom_at;
 use reader::read_next;
@@ -54,6 +55,7 @@ fn command(
     let k = advance_here(
         ws,
         &mut counts,
+        AREAS,
         g as usize + 2,
         limit,
         state.tables,

@@ -5,17 +5,13 @@ use reporting::Report;
 ghost use mathlib.Core.Path.{_≡_};
 ghost use Prim.Native.Nat.{_+_, _*_, _≤_, _<_};
 ghost use lib.ListN.{length};
-ghost use Rattle.labels.specs.Labels.{labelCount};
-ghost use Rattle.expression.specs.declared.Checked.the-variants.{Passed};
-ghost use Rattle.expression.specs.declared.Counts.{Counts};
-ghost use Rattle.expression.specs.Limits.{depthLimit};
-ghost use Rattle.expression.specs.Checks.{checkBytes};
+ghost use Rattle.expression.specs.Limits.{depthLimit, areaCount};
 ghost use Rattle.semantics.specs.AnswerSets.{byMasks};
 ghost use Rattle.rows.specs.Parts.{zeros};
 ghost use Rattle.entries.specs.declared.Carry.the-variants.{Nothing};
 ghost use Rattle.leaves.specs.Leaves.{Wide};
 ghost use Rattle.workspace.specs.Workspace.{pairsOf};
-ghost use Rattle.walks.specs.Walks.{walkTo};
+ghost use Rattle.walks.specs.Walks.{Enough, walkTo};
 ghost use Rattle.reports.specs.Reports.{reportOf};
 ghost use Rattle.stacks.specs.Stacks.{cleared};
 ghost use Rattle.reporting.specs.Reporting.{newestIn, reportAnswer, reportBuffer};
@@ -31,6 +27,7 @@ fn tabulate_in(
     vals: &mut [u64],
     counts: &mut [u64],
     kind: Tables,
+    d: usize,
     w: usize,
     p: usize,
     need: usize,
@@ -39,7 +36,7 @@ fn tabulate_in(
 ) -> Report
     requires { ⌜ Wide kind w × (w ≤ 4096) × (1 ≤ p) × (p ≤ 1024) × (w ≤ length (now row)) × (p ≤ length (now index)) ⌝ }
     requires { ⌜ (now counts ≡ zeros depthLimit) × (asked < length (now s)) ⌝ }
-    requires { ⌜ ((z : Counts) × (checkBytes labelCount (now s) ≡ Passed z)) × (need ≤ length (now ws)) × ((depthLimit + 1) * (p * w) ≤ need) ⌝ }
+    requires { ⌜ Enough d (now s) × (need ≤ length (now ws)) × (d * (p * w) ≤ need) × (d ≤ areaCount) ⌝ }
     ensures { λ r. ⌜ r ≡ reportAnswer (λ x. reportOf kind (pairsOf x)) (length (now (out .entry))) asked (newestIn (walkTo kind Nothing (byMasks «assumed_true» «assumed_false») w p (asked + 1) (now (s .entry)))) ⌝ }
     ensures { λ r. ⌜ now (out .exit) ≡ reportBuffer (λ x. reportOf kind (pairsOf x)) (now (out .entry)) (newestIn (walkTo kind Nothing (byMasks «assumed_true» «assumed_false») w p (asked + 1) (now (s .entry)))) ⌝ }
     ensures { λ r. ⌜ now (ws .exit) ≡ cleared need (now (ws .entry)) ⌝ }
@@ -54,6 +51,7 @@ fn tabulate_in(
         vals,
         counts,
         kind,
+        d,
         w,
         p,
         need,
@@ -69,6 +67,7 @@ pub fn tabulate_here(
     ws: &mut [u32],
     out: &mut [u32],
     kind: Tables,
+    d: usize,
     w: usize,
     p: usize,
     need: usize,
@@ -76,7 +75,7 @@ pub fn tabulate_here(
     assumed_false: u64,
 ) -> Report
     requires { ⌜ Wide kind w × (w ≤ 1026) × (1 ≤ p) × (p ≤ 1024) × (asked < length (now s)) ⌝ }
-    requires { ⌜ ((z : Counts) × (checkBytes labelCount (now s) ≡ Passed z)) × (need ≤ length (now ws)) × ((depthLimit + 1) * (p * w) ≤ need) ⌝ }
+    requires { ⌜ Enough d (now s) × (need ≤ length (now ws)) × (d * (p * w) ≤ need) × (d ≤ areaCount) ⌝ }
     ensures { λ r. ⌜ r ≡ reportAnswer (λ x. reportOf kind (pairsOf x)) (length (now (out .entry))) asked (newestIn (walkTo kind Nothing (byMasks «assumed_true» «assumed_false») w p (asked + 1) (now (s .entry)))) ⌝ }
     ensures { λ r. ⌜ now (out .exit) ≡ reportBuffer (λ x. reportOf kind (pairsOf x)) (now (out .entry)) (newestIn (walkTo kind Nothing (byMasks «assumed_true» «assumed_false») w p (asked + 1) (now (s .entry)))) ⌝ }
     ensures { λ r. ⌜ now (ws .exit) ≡ cleared need (now (ws .entry)) ⌝ }
@@ -95,6 +94,7 @@ pub fn tabulate_here(
         &mut vals,
         &mut counts,
         kind,
+        d,
         w,
         p,
         need,

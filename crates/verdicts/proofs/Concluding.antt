@@ -10,7 +10,7 @@ use Rattle.expression.specs.declared.Counts.{Counts}
 use Rattle.expression.specs.declared.Checked.the-variants.{Passed}
 use Rattle.expression.specs.declared.Located.the-variants.{Before}
 use Rattle.expression.specs.declared.Outcome.the-variants.{Yes, No}
-use Rattle.expression.specs.Limits.{depthLimit, rowWords}
+use Rattle.expression.specs.Limits.{depthLimit, rowWords, areaCount}
 use Rattle.expression.specs.Checks.{Request, check}
 use Rattle.expression.proofs.Accepted.{check-accepted}
 use Rattle.expression.proofs.Remaining.{remains-end}
@@ -62,7 +62,7 @@ module _ (a : Request) (r : Record) (ws : List ℕ) {z n : Counts} (passed : che
   pub first-within : 0 + p * w ≤ length ws
   first-within = omega (arith, long a r ws passed formed room eight)
 
-  standing : Stands Nothing (depthLimit + 1) w p us (drop ((depthLimit + 1) * (p * w)) ws) ws [] (r .counts)
+  standing : Stands Nothing areaCount w p us (drop (areaCount * (p * w)) ws) ws [] (r .counts)
   standing = stands a r ws passed formed room eight
 
   pub first-rows : Rows w p first (part 0 (p * w) ws)

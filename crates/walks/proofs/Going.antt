@@ -13,11 +13,11 @@ use Rattle.expression.specs.declared.Counts.{Counts}
 use Rattle.expression.specs.declared.Read.the-variants.{Command as Got, Fault}
 use Rattle.expression.specs.Limits.{depthLimit}
 use Rattle.expression.specs.Commands.{Suits, readAt}
-use Rattle.expression.specs.Effects.{effect}
+use Rattle.expression.specs.Effects.{effect, needs, leaves}
 use Rattle.expression.specs.Reading.{noCounts, newAtoms, depthAfter, counted, capped, countFault, Placed}
-use Rattle.expression.proofs.Totals.{counted-limited, capped-limited, leaves-one}
+use Rattle.expression.proofs.Totals.{counted-limited, capped-limited, passes-needs, leaves-one}
 use Rattle.expression.proofs.Checks.{Joined}
-use Rattle.expression.proofs.Remaining.{Remains, remains-start, remains-next, remains-end, Next}
+use Rattle.expression.proofs.Remaining.{Remains, remains-start, remains-next, remains-end, Next, next-deepest}
 use Rattle.semantics.specs.Expressions.{Operations, act}
 use Rattle.semantics.specs.AnswerSets.{Assumptions}
 use Rattle.semantics.proofs.Effects.{act-deep}
@@ -33,7 +33,7 @@ use Rattle.stacks.specs.Stacks.{Counted}
 use Rattle.stacks.proofs.Clearing.{holds-counted}
 use Rattle.operations.specs.Operations.{Meets}
 use Rattle.advances.specs.Advances.{Stands, Advanced}
-use Rattle.advances.proofs.Steps.{passes-meets, walk-nil, walk-on, walk-stops, fault-none, fault-some}
+use Rattle.advances.proofs.Steps.{walk-nil, walk-on, walk-stops, fault-none, fault-some}
 use Rattle.walks.specs.Walks.{before, walkTo}
 use Rattle.walks.proofs.Before.{before-nil, before-more, before-none}
 
@@ -44,9 +44,6 @@ module _ (kind : Tables) (carry : Carry) (o : Assumptions) (w p stop : ℕ) (s :
   abbrev f : List Entry → ℕ
   f t = pairsFault p (w - 2) (pairsOf t)
 
-  abbrev d : ℕ
-  d = depthLimit + 1
-
   -- at an offset, after counts n, on a stack
   pub record Leading (z : Counts) (at : ℕ) (n : Counts) (stack : List (List Entry)) : Type 0 where
     pub rest : List Placed
@@ -56,12 +53,12 @@ module _ (kind : Tables) (carry : Carry) (o : Assumptions) (w p stop : ℕ) (s :
     pub leads : walk B f (n .atoms) (before stop rest) stack ≡ walkTo kind carry o w p stop s
 
   -- with the tables that stand
-  pub record Going (z : Counts) (beyond : List ℕ) (at : ℕ) (n : Counts) (ws vals counts : List ℕ) : Type 0 where
+  pub record Going (d : ℕ) (z : Counts) (beyond : List ℕ) (at : ℕ) (n : Counts) (ws vals counts : List ℕ) : Type 0 where
     pub stack : List (List Entry)
     pub leading : Leading z at n stack
     pub stands : Stands carry d w p stack beyond ws vals counts
 
-  pub going-start : (z : Counts) → Joined labelCount s z → (beyond ws vals counts : List ℕ) → Stands carry d w p [] beyond ws vals counts → (n : Counts) → n ≡ noCounts → Going z beyond 0 n ws vals counts
+  pub going-start : {d : ℕ} (z : Counts) → Joined labelCount s z → (beyond ws vals counts : List ℕ) → Stands carry d w p [] beyond ws vals counts → (n : Counts) → n ≡ noCounts → Going d z beyond 0 n ws vals counts
   unfolding walkTo noCounts commandsIn
   going-start z j beyond ws vals counts h n e = record {
     stack = [];
@@ -94,8 +91,12 @@ module _ (kind : Tables) (carry : Carry) (o : Assumptions) (w p stop : ℕ) (s :
         pub suits : Suits labelCount c
         suits = read-suits labelCount s at c next got
 
-        pub meets : Meets c d (n .depth)
-        meets = passes-meets n c (subst (λ x. countFault n x ≡ 0) is-command (N .passes)) (g .remains .1)
+        operands : needs (effect c) ≤ n .depth
+        operands = passes-needs n c (subst (λ x. countFault n x ≡ 0) is-command (N .passes))
+
+        -- d areas are enough for the deepest stack
+        pub meets : {d : ℕ} → z .deepest < d → Meets c d (n .depth)
+        meets l = (operands, let k = subst (λ x. leaves (effect x) (n .depth) ≤ z .deepest) is-command (next-deepest labelCount s N) in omega arith)
 
         abbrev pub after : List (List Entry)
         after = act B (n .atoms) c stack
@@ -114,13 +115,13 @@ module _ (kind : Tables) (carry : Carry) (o : Assumptions) (w p stop : ℕ) (s :
             record {
               rest = N .rest;
               remains = rw (same, sym is-command, sym is-next) (N .after);
-              deep = rw (same, deeper) (act-deep B (n .atoms) c stack (rw (g .deep) (meets .0)) ∙ ap (λ k. depthAfter k c) (g .deep));
-              begun = λ l. rw (same, deeper) (leaves-one (effect c) (n .depth) (meets .0));
+              deep = rw (same, deeper) (act-deep B (n .atoms) c stack (rw (g .deep) operands) ∙ ap (λ k. depthAfter k c) (g .deep));
+              begun = λ l. rw (same, deeper) (leaves-one (effect c) (n .depth) operands);
               leads = rw (same, atoms) (sym (walk-on B f (n .atoms) at c (before stop (N .rest)) stack none) ∙ from-here);
             }
 
-        module _ {beyond : List ℕ} {r : ℕ} {ws counts ws' vals' counts' : List ℕ} (a : Advanced carry d w p after beyond r ws counts ws' vals' counts') where
-          pub going-on : r ≤ p → (n' : Counts) → n' ≡ capped (counted n c) → Going z beyond next n' ws' vals' counts'
+        module _ {d : ℕ} {beyond : List ℕ} {r : ℕ} {ws counts ws' vals' counts' : List ℕ} (a : Advanced carry d w p after beyond r ws counts ws' vals' counts') where
+          pub going-on : r ≤ p → (n' : Counts) → n' ≡ capped (counted n c) → Going d z beyond next n' ws' vals' counts'
           going-on few n' e = record { stack = after; leading = lead-on (sym (a .fault) ∙ fault-none p r few) n' e; stands = a .stands few }
 
           pub going-stops : p < r → (k : ℕ) → k ≡ faultOf p r → walkTo kind carry o w p stop s ≡ stopped k at

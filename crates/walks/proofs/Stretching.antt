@@ -1,7 +1,7 @@
 -- Commands done at once: the walk goes over them one by one, and none of their tables exceeds a limit. Assumes nothing.
 use mathlib.Core.Path.{_≡_, refl, sym, ap, _∙_, subst}
 use mathlib.Core.List.{List, [], _∷_}
-use Prim.Native.Nat.{ℕ, _+_, _-_, _≤_, _<_}
+use Prim.Native.Nat.{ℕ, _-_, _≤_, _<_}
 use native.Mathlib.Omega.{arith}
 use lib.ListN.{length}
 use Rattle.lists.specs.Lists.{All}
@@ -15,7 +15,6 @@ use Rattle.expression.specs.declared.Effect.the-variants.{Push, Unite, Change, 
 use Rattle.expression.specs.declared.Counts.{Counts}
 use Rattle.expression.specs.declared.Read.the-variants.{Command as Got}
 use Rattle.expression.specs.Commands.{readAt}
-use Rattle.expression.specs.Limits.{depthLimit}
 use Rattle.expression.specs.Effects.{effect}
 use Rattle.expression.specs.Reading.{counted, capped}
 use Rattle.expression.proofs.Commands.{read-ends}
@@ -111,10 +110,10 @@ module _ (kind : Tables) (carry : Carry) (o : Assumptions) (w p stop : ℕ) (s :
       (chain-leads cs (e .1 .0) end (batchedTable carry (c ∷ []) x) us (one g (e .0) h small c (e .1 .0) (e .1 .1)) (batched-sound carry w p (c ∷ []) x h) (small-batched carry (c ∷ []) x small) (e .1 .2))
 
   -- from what stands before them to what stands after them
-  pub going-ahead : {z n : Counts} {at : ℕ} {beyond ws vals counts ws' vals' counts' : List ℕ} {r : Stretch} (g : Going kind carry o w p stop s z beyond at n ws vals counts)
-      → Ahead carry (depthLimit + 1) w p stop at n s (g .stack) beyond r ws' vals' counts' → Going kind carry o w p stop s z beyond (r .next) (r .counts) ws' vals' counts'
+  pub going-ahead : {d : ℕ} {z n : Counts} {at : ℕ} {beyond ws vals counts ws' vals' counts' : List ℕ} {r : Stretch} (g : Going kind carry o w p stop s d z beyond at n ws vals counts)
+      → Ahead carry d w p stop at n s (g .stack) beyond r ws' vals' counts' → Going kind carry o w p stop s d z beyond (r .next) (r .counts) ws' vals' counts'
   unfolding Chain chainCounts
-  going-ahead {z} {n} {at} {r = r} g a = record {
+  going-ahead {z = z} {n} {at} {r = r} g a = record {
     stack = stretched carry (a .done) (g .stack);
     leading = subst (λ m. L z (r .next) m (stretched carry (a .done) (g .stack))) (sym (a .after)) (go (g .stack) (g .leading) (g .stands .holds .sound) (a .small) (a .none));
     stands = a .stands;

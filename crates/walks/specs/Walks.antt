@@ -6,7 +6,10 @@ use Prim.Native.Nat.{ℕ, _-_, _≤_, _<_}
 use lib.Dec.{ltb}
 use lib.ListN.{length}
 use Rattle.labels.specs.Labels.{labelCount}
+use Rattle.expression.specs.declared.Counts.{Counts}
+use Rattle.expression.specs.declared.Checked.the-variants.{Passed}
 use Rattle.expression.specs.Reading.{Placed, reading}
+use Rattle.expression.specs.Checks.{checkBytes}
 use Rattle.semantics.specs.AnswerSets.{Assumptions}
 use Rattle.tables.specs.Algebras.{tables}
 use Rattle.tables.specs.Definitions.{Pair}
@@ -20,6 +23,10 @@ use Rattle.stacks.specs.Stacks.{Counted}
 use Rattle.advances.specs.Advances.{Stands}
 use Rattle.walks.specs.declared.Reached.{Reached}
 use Rattle.walks.specs.declared.Reached.the-variants.{Stopped, Through}
+
+-- an expression that its checks pass, with room for its operands and scratch in d areas
+abbrev pub Enough : ℕ → List ℕ → Type 0
+Enough d s = (z : Counts) × (checkBytes labelCount s ≡ Passed z) × (z .deepest < d)
 
 -- the commands that start before an offset
 unfoldable pub before : ℕ → List Placed → List Placed

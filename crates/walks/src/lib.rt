@@ -1,5 +1,4 @@
 // The commands of an expression on the tables of a workspace, one after the other.
-use advances::AREAS;
 use advances::advance;
 use advances::fault_of;
 use ahead::run_ahead;
@@ -12,18 +11,13 @@ use leaves::atom_at;
 use reader::read_next;
 ghost use mathlib.Core.Path.{_≡_};
 ghost use mathlib.Core.List.{List, []};
-ghost use Prim.Native.Nat.{ℕ, _+_, _*_, _≤_};
+ghost use Prim.Native.Nat.{ℕ, _≤_};
 ghost use lib.ListN.{length};
-ghost use Rattle.labels.specs.Labels.{labelCount};
-ghost use Rattle.expression.specs.declared.Counts.{Counts};
-ghost use Rattle.expression.specs.Limits.{depthLimit};
-ghost use Rattle.expression.specs.declared.Checked.the-variants.{Passed};
-ghost use Rattle.expression.specs.Checks.{checkBytes};
 ghost use Rattle.semantics.specs.AnswerSets.{byMasks};
 ghost use Rattle.batches.specs.Batches.{batchLimit};
 ghost use Rattle.leaves.specs.Leaves.{Wide};
 ghost use Rattle.advances.specs.Advances.{Stands};
-ghost use Rattle.walks.specs.Walks.{Reaches};
+ghost use Rattle.walks.specs.Walks.{Enough, Reaches};
 
 // A command whose table exceeds a limit, with the refusal's number, its place and how many tables stand; or how many stand after all commands.
 pub enum Reached {
@@ -31,7 +25,7 @@ pub enum Reached {
     Through(usize),
 }
 
-// All commands that start before `stop`, on no tables at first. The expression passed the checks, so every offset that comes is a command's. ops is
+// All commands that start before `stop`, in d areas, on no tables at first. The expression passed the checks, so every offset that comes is a command's. ops is
 // lent for words of commands.
 fn walk_by(
     s: &[u8],
@@ -44,14 +38,15 @@ fn walk_by(
     ops: &mut [u32],
     kind: Tables,
     carry: Carry,
+    d: usize,
     w: usize,
     p: usize,
     assumed_true: u64,
     assumed_false: u64,
 ) -> Reached
     requires { ⌜ Wide kind w × (w ≤ 4096) × (1 ≤ p) × (p ≤ 1024) × (length (now row) ≡ w) × (p ≤ length (now index)) × (stop ≤ length (now s)) × (length (now ops) ≤ batchLimit) ⌝ }
-    requires { ⌜ ((z : Counts) × (checkBytes labelCount (now s) ≡ Passed z)) × ((beyond : List ℕ) × Stands carry (depthLimit + 1) w p [] beyond (now ws) (now vals) (now counts)) ⌝ }
-    ensures { λ r. ⌜ ((beyond : List ℕ) → Stands carry (depthLimit + 1) w p [] beyond (now (ws .entry)) (now (vals .entry)) (now (counts .entry)) → Reaches kind carry (byMasks «assumed_true» «assumed_false») (depthLimit + 1) w p stop (now (s .entry)) beyond (now (ws .exit)) (now (vals .exit)) (now (counts .exit)) r) ⌝ }
+    requires { ⌜ Enough d (now s) × ((beyond : List ℕ) × Stands carry d w p [] beyond (now ws) (now vals) (now counts)) ⌝ }
+    ensures { λ r. ⌜ ((beyond : List ℕ) → Stands carry d w p [] beyond (now (ws .entry)) (now (vals .entry)) (now (counts .entry)) → Reaches kind carry (byMasks «assumed_true» «assumed_false») d w p stop (now (s .entry)) beyond (now (ws .exit)) (now (vals .exit)) (now (counts .exit)) r) ⌝ }
 {
     let mut at: usize = 0;
     let mut n = no_counts();
@@ -68,6 +63,7 @@ fn walk_by(
             vals,
             counts,
             carry,
+            d,
             w,
             p,
         );
@@ -88,7 +84,7 @@ fn walk_by(
             counts,
             kind,
             carry,
-            AREAS,
+            d,
             w,
             p,
             t,
@@ -115,14 +111,15 @@ pub fn walk(
     counts: &mut [u64],
     kind: Tables,
     carry: Carry,
+    d: usize,
     w: usize,
     p: usize,
     assumed_true: u64,
     assumed_false: u64,
 ) -> Reached
     requires { ⌜ Wide kind w × (w ≤ 4096) × (1 ≤ p) × (p ≤ 1024) × (length (now row) ≡ w) × (p ≤ length (now index)) × (stop ≤ length (now s)) ⌝ }
-    requires { ⌜ ((z : Counts) × (checkBytes labelCount (now s) ≡ Passed z)) × ((beyond : List ℕ) × Stands carry (depthLimit + 1) w p [] beyond (now ws) (now vals) (now counts)) ⌝ }
-    ensures { λ r. ⌜ ((beyond : List ℕ) → Stands carry (depthLimit + 1) w p [] beyond (now (ws .entry)) (now (vals .entry)) (now (counts .entry)) → Reaches kind carry (byMasks «assumed_true» «assumed_false») (depthLimit + 1) w p stop (now (s .entry)) beyond (now (ws .exit)) (now (vals .exit)) (now (counts .exit)) r) ⌝ }
+    requires { ⌜ Enough d (now s) × ((beyond : List ℕ) × Stands carry d w p [] beyond (now ws) (now vals) (now counts)) ⌝ }
+    ensures { λ r. ⌜ ((beyond : List ℕ) → Stands carry d w p [] beyond (now (ws .entry)) (now (vals .entry)) (now (counts .entry)) → Reaches kind carry (byMasks «assumed_true» «assumed_false») d w p stop (now (s .entry)) beyond (now (ws .exit)) (now (vals .exit)) (now (counts .exit)) r) ⌝ }
 {
     let mut ops = [0u32; batches::BATCH_LIMIT];
     walk_by(
@@ -136,6 +133,7 @@ pub fn walk(
         &mut ops,
         kind,
         carry,
+        d,
         w,
         p,
         assumed_true,

@@ -1,14 +1,13 @@
 -- A command on a workspace that holds a stack of tables: the entries of an operand, and the stack with the table that was made. Assumes nothing.
-use mathlib.Core.Path.{_≡_, refl, sym, ap, ap₂, _∙_, subst}
-use mathlib.Core.List.{List, [], _∷_, map}
+use mathlib.Core.Path.{_≡_, sym, ap, ap₂, _∙_}
+use mathlib.Core.List.{List, _∷_, map}
 use Prim.Native.Nat.{ℕ, suc, _+_, _-_, _*_, _≤_, _<_}
 use native.Mathlib.Omega.{arith}
-use lib.ListN.{length, drop, length-map}
+use lib.ListN.{length, length-map}
 use Rattle.lists.specs.Lists.{All}
 use Rattle.lists.specs.Sorted.{compareNumbers, Rising}
 use Rattle.lists.proofs.Members.{all-map}
-use Rattle.tables.specs.Definitions.{Pair, subsets}
-use Rattle.decisions.specs.Decisions.{pairsFault}
+use Rattle.tables.specs.Definitions.{subsets}
 use Rattle.rows.specs.Parts.{part, put}
 use Rattle.rows.specs.Rows.{Rows, rowsIn, tableOf}
 use Rattle.rows.proofs.Tables.{rows-of}
@@ -17,7 +16,7 @@ use Rattle.entries.specs.Carries.{Entry, valuesIn, valueArea}
 use Rattle.entries.specs.Entries.{withValues}
 use Rattle.entries.proofs.Keeping.{kept-beside, values-long}
 use Rattle.making.specs.Making.{tableOfAll, Finished, entriesAt}
-use Rattle.workspace.specs.Workspace.{workspaceOf, Sound, pairsOf, valuesOf, valuesFrom, HeldValues, Roomy, Holds, faultOf, Acted}
+use Rattle.workspace.specs.Workspace.{workspaceOf, Sound, pairsOf, valuesOf, valuesFrom, HeldValues, Roomy, Holds, Acted}
 use Rattle.workspace.proofs.Values.{Moved, moved-new, moved-below, moved-roomy, with-both, values-with}
 use Rattle.workspace.proofs.Faults.{fault-is, table-sound}
 

@@ -1,7 +1,7 @@
 -- The table of all candidates: what holds of the candidates holds of it and the other way; 15 and 16 by the count that a command answers. Assumes nothing.
-use mathlib.Core.Path.{_≡_, refl, sym, ap, _∙_, subst}
+use mathlib.Core.Path.{_≡_, refl, sym, subst}
 use mathlib.Core.Bool.{Bool, true, false, cond}
-use mathlib.Core.List.{List, [], _∷_, map}
+use mathlib.Core.List.{List, [], _∷_}
 use Prim.Native.Nat.{ℕ, _+_, _-_, _≤_, _<_}
 use native.Mathlib.Omega.{arith}
 use lib.Dec.{ltb}
@@ -21,7 +21,7 @@ use Rattle.decisions.specs.Decisions.{pairsFault}
 use Rattle.rows.specs.Rows.{Fit}
 use Rattle.entries.specs.declared.Carry.{Carry}
 use Rattle.entries.specs.Carries.{Entry, entryAlgebra, carriedBy}
-use Rattle.making.specs.Making.{tableOfAll, FitEntry, Finished}
+use Rattle.making.specs.Making.{tableOfAll, Finished}
 use Rattle.workspace.specs.Workspace.{Sound, pairsOf, faultOf}
 
 -- the property of a pair as one of entries

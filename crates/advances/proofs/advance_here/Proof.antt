@@ -2,7 +2,6 @@
 use borrow.Author.Needs.{needs}
 use Rattle.advances.proofs.advance_here.Statement.{statement}
 use Rattle.advances.proofs.advance_here.Tie as tie
-use Rattle.advances.proofs.advance_in.Reads as advance-in-reads
 
 slice-aggregate-advance-in : tie.Need-slice-aggregate-advance-in
 slice-aggregate-advance-in c = search needs

@@ -1,12 +1,11 @@
 -- `advances::advance_in`: the front of the row is lent, and no word of values.
-use mathlib.Core.Path.{refl, sym}
+use mathlib.Core.Path.{sym}
 use native.Mathlib.Omega.{arith}
 use lib.Seq.{length-take-le}
 use Rattle.advances.proofs.Bare.{stands-any, advanced-any}
 use borrow.Author.Needs.{needs}
 use Rattle.advances.proofs.advance_in.Statement.{statement}
 use Rattle.advances.proofs.advance_in.Tie as tie
-use Rattle.advances.proofs.advance.Reads as advance-reads
 
 slice-relend-prefix-advance : tie.Need-slice-relend-prefix-advance
 slice-relend-prefix-advance c = search needs
@@ -18,7 +17,7 @@ advance-requires : tie.Need-advance-requires
 advance-requires c κs =
     let s = c .before .before .before .before .before .before .before .before .before .before in
     let q = s .pre in
-    ((q .0 .0, omega (arith, q .0 .1), q .0 .2, q .0 .3, omega arith, length-take-le (s .args .w) (s .args .row .now) (q .0 .4), q .0 .5), ((q .1 .0, q .1 .1, q .1 .2), (q .1 .3 .0, q .1 .3 .1, stands-any _ _ (q .1 .3 .2), q .1 .3 .3)))
+    ((q .0 .0, omega (arith, q .0 .1), q .0 .2, q .0 .3, length-take-le (s .args .w) (s .args .row .now) (q .0 .4), q .0 .5), ((q .1 .0, q .1 .1, q .1 .2), (q .1 .3 .0, q .1 .3 .1, stands-any _ _ (q .1 .3 .2), q .1 .3 .3)))
 
 same-length : tie.Need-same-length
 same-length c = search needs

@@ -1,14 +1,13 @@
 -- `ahead::run_ahead`: the commands are read, and done where there are any.
 use mathlib.Core.Path.{refl, sym}
 use mathlib.Core.List.{List, []}
-use Prim.Native.Nat.{ℕ, _+_, _≤_}
+use Prim.Native.Nat.{ℕ, _≤_}
 use native.Mathlib.Omega.{arith}
 use lib.ListN.{take}
 use lib.Seq.{length-take-le}
 use Rattle.lists.specs.Lists.{All}
 use Rattle.labels.specs.Labels.{labelCount}
 use Rattle.expression.specs.declared.Command.{Command}
-use Rattle.expression.specs.Limits.{depthLimit}
 use Rattle.decisions.specs.Decisions.{newest}
 use Rattle.batches.specs.Batches.{commandsOf}
 use Rattle.entries.specs.Carries.{Entry}
@@ -25,7 +24,7 @@ abbrev start : tie.After-struct-known → tie.Start
 start c = c .before .before .before .before .before .before .before .before
 
 -- values are words
-small : (c : tie.After-struct-known) (ts : List (List Entry)) (beyond : List ℕ) → Stands (start c .args .carry) (depthLimit + 1) (start c .args .w) (start c .args .p) ts beyond (start c .args .ws .now) (start c .args .vals .now) (start c .args .counts .now)
+small : (c : tie.After-struct-known) (ts : List (List Entry)) (beyond : List ℕ) → Stands (start c .args .carry) (start c .args .d) (start c .args .w) (start c .args .p) ts beyond (start c .args .ws .now) (start c .args .vals .now) (start c .args .counts .now)
     → All (Small (start c .args .carry)) (newest ts)
 small c ts beyond h = small-newest (start c .args .carry) (start c .args .p) ts (start c .args .vals .now) (λ i. c .before .before .slice-known5 .given i .fits) (h .holds .values)
 

@@ -67,7 +67,7 @@ decide-pairs-requires : tie.Need-decide-pairs-requires
 decide-pairs-requires c κs =
     let e = c .before .before in
     let A = accepted (asked (start e)) (passed e) in
-    ((omega (arith, A .subsets .0), omega (arith, A .subsets .1), A .pairs .0, A .pairs .1), ((counts e, check-bytes labelCount (asked (start e)) (counts e) (passed e)), A .room, omega arith))
+    ((omega (arith, A .subsets .0), omega (arith, A .subsets .1), A .pairs .0, A .pairs .1), ((counts e, check-bytes labelCount (asked (start e)) (counts e) (passed e), omega (arith, A .joined .limited .deepest)), A .room, omega arith, omega arith))
 
 shown-requires : tie.Need-shown-requires
 shown-requires c κs =

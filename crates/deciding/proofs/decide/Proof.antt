@@ -1,12 +1,13 @@
 -- `deciding::decide`: from the cleared words through the walk to what its last table says, and to cleared words again.
 use mathlib.Core.Path.{_≡_, refl, sym, ap, _∙_, subst}
 use mathlib.Core.List.{List, [], map}
-use Prim.Native.Nat.{ℕ, _+_, _*_}
+use Prim.Native.Nat.{ℕ, _*_}
 use lib.ListN.{length}
 use Rattle.labels.specs.Labels.{labelCount}
 use Rattle.expression.specs.Limits.{depthLimit}
 use Rattle.semantics.specs.AnswerSets.{byMasks}
 use Rattle.tables.specs.Definitions.{accepting}
+use Rattle.rows.proofs.Tables.{row-within}
 use Rattle.leaves.proofs.Writing.{wide-two}
 use Rattle.workspace.specs.Workspace.{pairsOf}
 use Rattle.stacks.proofs.Clearing.{holds-counted}
@@ -25,12 +26,6 @@ use native.Mathlib.Omega.{arith}
 use borrow.Author.Needs.{needs}
 use Rattle.deciding.proofs.decide.Statement.{statement}
 use Rattle.deciding.proofs.decide.Tie as tie
-use Rattle.answers.proofs.least_accepting.Reads as least-accepting-reads
-use Rattle.deciding.proofs.outcome_of.Reads as outcome-of-reads
-use Rattle.stacks.proofs.clear_need.Reads as clear-need-reads
-use Rattle.stacks.proofs.clear_tables.Reads as clear-tables-reads
-use Rattle.stacks.proofs.count_below.Reads as count-below-reads
-use Rattle.walks.proofs.walk.Reads as walk-reads
 
 abbrev start : tie.After-clear-need → tie.Start
 start c = c .before .before .before .before .before .before .before .before
@@ -38,12 +33,12 @@ start c = c .before .before .before .before .before .before .before .before
 -- no table stands in the cleared words
 module _ (c : tie.After-clear-need) where
   abbrev back : List ℕ
-  back = let s = start c in behind (s .args .w) (s .args .p) (s .args .need) (s .args .ws .now) (s .pre .1 .1 .2)
+  back = let s = start c in behind (s .args .d) (s .args .w) (s .args .p) (s .args .need) (s .args .ws .now) (s .pre .1 .1 .2)
 
-  none : Stands (start c .args .carry) (depthLimit + 1) (start c .args .w) (start c .args .p) [] back (c .clear-need .last .0) (start c .args .vals .now) (start c .args .counts .now)
+  none : Stands (start c .args .carry) (start c .args .d) (start c .args .w) (start c .args .p) [] back (c .clear-need .last .0) (start c .args .vals .now) (start c .args .counts .now)
   none =
       let s = start c in
-      stands-clear (s .args .w) (s .args .p) (s .args .need) (s .args .ws .now) (s .pre .1 .1 .2) (s .args .carry) (c .clear-need .last .0) (s .args .vals .now) (s .args .counts .now) (c .clear-need .ensures) (s .pre .1 .0 .1) (s .pre .1 .0 .0)
+      stands-clear (s .args .d) (s .args .w) (s .args .p) (s .args .need) (s .args .ws .now) (s .pre .1 .1 .2) (s .args .carry) (c .clear-need .last .0) (s .args .vals .now) (s .args .counts .now) (c .clear-need .ensures) (s .pre .1 .0 .1) (s .pre .1 .0 .0) (omega (arith, s .pre .1 .1 .0 .2)) (s .pre .1 .1 .3)
 
 abbrev origin : tie.After-walk → tie.After-clear-need
 origin u = u .before .before .before .before .before .before .before .before
@@ -53,7 +48,7 @@ module _ (u : tie.After-walk) where
   abbrev Reach : Reached → Type 0
   Reach r =
       let s = start (origin u) in
-      Reaches (s .args .kind) (s .args .carry) (byMasks (s .args .assumed-true) (s .args .assumed-false)) (depthLimit + 1) (s .args .w) (s .args .p) (length (s .args .s .now)) (s .args .s .now) (back (origin u)) (u .walk .last .1 .1 .0) (u .walk .last .1 .1 .1 .1 .1 .0) (u .walk .last .1 .1 .1 .1 .1 .1 .0) r
+      Reaches (s .args .kind) (s .args .carry) (byMasks (s .args .assumed-true) (s .args .assumed-false)) (s .args .d) (s .args .w) (s .args .p) (length (s .args .s .now)) (s .args .s .now) (back (origin u)) (u .walk .last .1 .1 .0) (u .walk .last .1 .1 .1 .1 .1 .0) (u .walk .last .1 .1 .1 .1 .1 .1 .0) r
 
   reach : Reach (u .walk .result)
   reach = u .walk .ensures (back (origin u)) (none (origin u))
@@ -86,14 +81,14 @@ clear-tables-requires c κs =
     let u = e .before .before .before .before .before .before .before .before .before .before .before .before in
     let s = start (origin u) in
     let R = subst (Reach u) (e .r .given .1) (reach u) in
-    (wide-two (s .args .kind) (s .args .w) (s .pre .0 .0), (depthLimit + 1, R .1 .0, back (origin u), R .1 .1))
+    (wide-two (s .args .kind) (s .args .w) (s .pre .0 .0), (s .args .d, R .1 .0, back (origin u), R .1 .1))
 
 enum-known-r-2 : tie.Need-enum-known-r-2
 enum-known-r-2 c = search needs
 
 count-below-requires : tie.Need-count-below-requires
 count-below-requires c κs =
-    let R = through (c .before .before) in (omega arith, counts-reach (R .2) (omega arith) (c .before .before .r2 .given .0 .0) (R .3))
+    let R = through (c .before .before) in (omega arith, counts-reach (R .2) (c .before .before .r2 .given .0 .0) (R .3))
 
 least-accepting-requires : tie.Need-least-accepting-requires
 least-accepting-requires c κs =
@@ -103,14 +98,15 @@ least-accepting-requires c κs =
     let R = through e in
     let n = c .before .before .count-below in
     let t = e .r2 .given .0 .0 in
-    (omega (arith, s .pre .1 .1 .1, s .pre .1 .1 .2, long u), last-rows (R .2) t (R .3) (R .4 refl) (n .result) (n .ensures), last-beside (R .2) t (R .3) (R .4 refl) (n .result) (n .ensures))
+    let first = row-within 0 (s .args .d) (s .args .p * s .args .w) (omega (arith, s .pre .1 .1 .0 .2)) in
+    (omega (arith, s .pre .1 .1 .1, s .pre .1 .1 .2, long u, first), last-rows (R .2) t (R .3) (R .4 refl) (n .result) (n .ensures), last-beside (R .2) t (R .3) (R .4 refl) (n .result) (n .ensures))
 
 clear-tables-requires-2 : tie.Need-clear-tables-requires-2
 clear-tables-requires-2 c κs =
     let e = c .before .before .before .before .before .before .before .before in
     let s = start (origin (walked-by e)) in
     let R = through e in
-    (wide-two (s .args .kind) (s .args .w) (s .pre .0 .0), (depthLimit + 1, map pairsOf (R .0), back (origin (walked-by e)), holds-counted depthLimit (R .2 .holds) (R .3) (R .2 .tallies)))
+    (wide-two (s .args .kind) (s .args .w) (s .pre .0 .0), (s .args .d, map pairsOf (R .0), back (origin (walked-by e)), holds-counted depthLimit (R .2 .holds) (R .3) (R .2 .tallies)))
 
 outcome-of-requires : tie.Need-outcome-of-requires
 outcome-of-requires c κs = search needs
@@ -137,7 +133,7 @@ returns c =
     let u = e .before .before .before .before .before .before .before .before .before .before .before .before in
     let s = start (origin u) in
     let R = subst (Reach u) (e .r .given .1) (reach u) in
-    (R .0, all-clear (s .args .w) (s .args .p) (s .args .need) (s .args .ws .now) (s .pre .1 .1 .2) _ (d .clear-tables .ensures (depthLimit + 1) (R .1 .0) (back (origin u)) (R .1 .1)))
+    (R .0, all-clear (s .args .d) (s .args .w) (s .args .p) (s .args .need) (s .args .ws .now) (s .pre .1 .1 .2) _ (d .clear-tables .ensures (s .args .d) (R .1 .0) (back (origin u)) (R .1 .1)))
 
 same-length-6 : tie.Need-same-length-6
 same-length-6 c =
@@ -166,7 +162,7 @@ returns-2 c =
     let n = c .before .before .before .before .before .before .before .before .before .count-below in
     let t = e .r2 .given .0 .0 in
     let o = byMasks (s .args .assumed-true) (s .args .assumed-false) in
-    (subst (Decides (s .args .kind) (s .args .carry) o (s .args .w) (s .args .p) (s .args .s .now)) (sym (c .outcome-of .ensures)) (found-decides (s .args .kind) (s .args .carry) o (s .args .w) (s .args .p) (s .args .s .now) (R .0) (R .1) (l .least-accepting .result) (l .least-accepting .ensures ∙ ap (leastOf (accepting labelCount)) (last-entries (R .2) t (R .3) (R .4 refl) (n .result) (n .ensures)))), all-clear (s .args .w) (s .args .p) (s .args .need) (s .args .ws .now) (s .pre .1 .1 .2) _ (d .clear-tables2 .ensures (depthLimit + 1) (map pairsOf (R .0)) (back (origin u)) (holds-counted depthLimit (R .2 .holds) (R .3) (R .2 .tallies))))
+    (subst (Decides (s .args .kind) (s .args .carry) o (s .args .w) (s .args .p) (s .args .s .now)) (sym (c .outcome-of .ensures)) (found-decides (s .args .kind) (s .args .carry) o (s .args .w) (s .args .p) (s .args .s .now) (R .0) (R .1) (l .least-accepting .result) (l .least-accepting .ensures ∙ ap (leastOf (accepting labelCount)) (last-entries (R .2) t (R .3) (R .4 refl) (n .result) (n .ensures)))), all-clear (s .args .d) (s .args .w) (s .args .p) (s .args .need) (s .args .ws .now) (s .pre .1 .1 .2) _ (d .clear-tables2 .ensures (s .args .d) (map pairsOf (R .0)) (back (origin u)) (holds-counted depthLimit (R .2 .holds) (R .3) (R .2 .tallies))))
 
 pub decide-spec : {M : Type 1} → statement M
 decide-spec =

@@ -1,15 +1,12 @@
 -- `engine::decide_in`: the front of each array is lent.
 use mathlib.Core.Path.{sym}
 use lib.Seq.{length-take-le}
-use Prim.Native.Nat.{_+_}
-use Rattle.expression.specs.Limits.{depthLimit}
 use Rattle.engine.proofs.Arrays.{roomy-zeros}
 use borrow.Author.Needs.{needs}
 use native.Mathlib.Omega.{arith}
 use borrow.Author.Needs.{needs}
 use Rattle.engine.proofs.decide_in.Statement.{statement}
 use Rattle.engine.proofs.decide_in.Tie as tie
-use Rattle.deciding.proofs.decide.Reads as decide-reads
 
 slice-relend-prefix-decide : tie.Need-slice-relend-prefix-decide
 slice-relend-prefix-decide c = search needs
@@ -21,7 +18,7 @@ slice-aggregate-decide c =
 decide-requires : tie.Need-decide-requires
 decide-requires c κs =
     let s = c .before .before .before .before .before .before .before .before .before .before .before in
-    ((s .pre .0 .0, s .pre .0 .1, s .pre .0 .2, s .pre .0 .3, length-take-le (s .args .w) (s .args .row .now) (s .pre .0 .4), s .pre .0 .5), ((roomy-zeros (s .args .carry) (depthLimit + 1) (s .args .p) (s .args .vals .now) (omega arith) (s .pre .1 .0 .0) (s .pre .1 .0 .1), s .pre .1 .0 .2), s .pre .1 .1))
+    ((s .pre .0 .0, s .pre .0 .1, s .pre .0 .2, s .pre .0 .3, length-take-le (s .args .w) (s .args .row .now) (s .pre .0 .4), s .pre .0 .5), ((roomy-zeros (s .args .carry) (s .args .d) (s .args .p) (s .args .vals .now) (omega (arith, s .pre .1 .1 .0 .2)) (s .pre .1 .0 .0) (s .pre .1 .0 .1), s .pre .1 .0 .2), s .pre .1 .1))
 
 same-length : tie.Need-same-length
 same-length c = search needs

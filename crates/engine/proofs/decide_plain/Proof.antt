@@ -5,7 +5,6 @@ use native.Mathlib.Omega.{arith}
 use borrow.Author.Needs.{needs}
 use Rattle.engine.proofs.decide_plain.Statement.{statement}
 use Rattle.engine.proofs.decide_plain.Tie as tie
-use Rattle.engine.proofs.decide_in.Reads as decide-in-reads
 
 slice-aggregate-decide-in : tie.Need-slice-aggregate-decide-in
 slice-aggregate-decide-in c = search needs

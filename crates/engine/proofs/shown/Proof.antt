@@ -3,11 +3,9 @@ use mathlib.Core.Path.{sym, ap, _∙_}
 use Rattle.expression.specs.declared.Outcome.the-variants.{Yes}
 use Rattle.engine.specs.Engine.{shownOutcome}
 use borrow.Author.Needs.{needs}
-use native.Mathlib.Omega.{arith}
 use borrow.Author.Needs.{needs}
 use Rattle.engine.proofs.shown.Statement.{statement}
 use Rattle.engine.proofs.shown.Tie as tie
-use Rattle.answers.proofs.shown_mask.Reads as shown-mask-reads
 
 enum-known-o : tie.Need-enum-known-o
 enum-known-o c = search needs

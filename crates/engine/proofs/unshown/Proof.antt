@@ -2,7 +2,6 @@
 use mathlib.Core.Path.{sym, ap}
 use Rattle.engine.specs.Engine.{plainOutcome}
 use borrow.Author.Needs.{needs}
-use native.Mathlib.Omega.{arith}
 use borrow.Author.Needs.{needs}
 use Rattle.engine.proofs.unshown.Statement.{statement}
 use Rattle.engine.proofs.unshown.Tie as tie

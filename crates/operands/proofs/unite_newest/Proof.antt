@@ -16,9 +16,6 @@ use native.Mathlib.Omega.{arith}
 use borrow.Author.Needs.{needs}
 use Rattle.operands.proofs.unite_newest.Statement.{statement}
 use Rattle.operands.proofs.unite_newest.Tie as tie
-use Rattle.operands.proofs.values_from.Reads as values-from-reads
-use Rattle.unions.proofs.unite_tables.Reads as unite-tables-reads
-use Rattle.workspace.proofs.move_values.Reads as move-values-reads
 
 -- ---- what the workspace gives
 

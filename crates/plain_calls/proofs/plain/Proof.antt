@@ -67,7 +67,7 @@ decide-plain-requires : tie.Need-decide-plain-requires
 decide-plain-requires c κs =
     let e = c .before in
     let A = accepted (asked (start e)) (passed e) in
-    ((A .pairs .0, A .pairs .1), ((counts e, check-bytes labelCount (asked (start e)) (counts e) (passed e)), A .room, plain-within (start e .args .p) (start e .args .g)))
+    ((A .pairs .0, A .pairs .1), ((counts e, check-bytes labelCount (asked (start e)) (counts e) (passed e), omega (arith, A .joined .limited .deepest)), A .room, plain-within (start e .args .p) (start e .args .g), omega arith))
 
 unshown-requires : tie.Need-unshown-requires
 unshown-requires c κs = search needs

@@ -1,6 +1,8 @@
 -- `record_tests::are_found`: the counts behind, then the tables.
 use mathlib.Core.Path.{_≡_, sym, ap, _∙_}
 use Prim.Native.Nat.{_*_}
+use native.Mathlib.Nat.{mul-le-mul}
+use native.Mathlib.Omega.{arith}
 use lib.ListN.{drop}
 use lib.Seq.{length-take-le}
 use borrow.Author.Tests.{not-true, not-false}
@@ -10,8 +12,6 @@ use Rattle.record_tests.proofs.Forming.{areas-fit}
 use borrow.Author.Needs.{needs}
 use Rattle.record_tests.proofs.are_found.Statement.{statement}
 use Rattle.record_tests.proofs.are_found.Tie as tie
-use Rattle.table_forms.proofs.are_tables.Reads as are-tables-reads
-use Rattle.forms.proofs.are_zero_counts.Reads as are-zero-counts-reads
 
 module _ (u : tie.After-are-zero-counts) where
   abbrev origin : tie.Start
@@ -39,13 +39,13 @@ returns : tie.Need-returns
 returns c = rw (zero-behind (c .before) ∙ not-true _ (c .if1 .taken))
 
 mul-need : tie.Need-mul-need
-mul-need c = search needs
+mul-need c = let s = c .before .before .before .before .before in omega (arith, mul-le-mul (s .pre .2) (s .pre .1))
 
 mul-need-2 : tie.Need-mul-need-2
 mul-need-2 c = search needs
 
 slice-aggregate-are-tables : tie.Need-slice-aggregate-are-tables
-slice-aggregate-are-tables c = let s = c .before .before .before .before .before .before in sym (length-take-le _ (s .args .ws .now) (s .pre .5))
+slice-aggregate-are-tables c = let s = c .before .before .before .before .before .before in sym (length-take-le _ (s .args .ws .now) (s .pre .6))
 
 slice-aggregate-are-tables-2 : tie.Need-slice-aggregate-are-tables-2
 slice-aggregate-are-tables-2 c = let s = c .before .before .before .before .before .before .before in sym (length-take-le _ (s .args .counts .now) (s .pre .3))
@@ -53,7 +53,7 @@ slice-aggregate-are-tables-2 c = let s = c .before .before .before .before .befo
 are-tables-requires : tie.Need-are-tables-requires
 are-tables-requires c κs =
     let s = c .before .before .before .before .before .before .before in
-    (s .pre .0, s .pre .1, s .pre .2, areas-fit (s .args .t) (s .args .p * s .args .w) (s .args .counts .now) (s .args .ws .now) (s .pre .3) (s .pre .4) (s .pre .5))
+    (s .pre .0, s .pre .1, s .pre .2, areas-fit (s .args .t) (s .args .d) (s .args .p * s .args .w) (s .args .counts .now) (s .args .ws .now) (s .pre .3) (s .pre .4) (s .pre .6))
 
 returns-2 : tie.Need-returns-2
 returns-2 c = rw (zero-behind (c .before .before .before .before) ∙ not-false _ (c .before .before .before .if1 .left)) (c .are-tables .ensures)

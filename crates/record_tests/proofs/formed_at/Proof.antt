@@ -17,8 +17,6 @@ use Rattle.record_tests.proofs.Lengths.{eight}
 use borrow.Author.Needs.{needs}
 use Rattle.record_tests.proofs.formed_at.Statement.{statement}
 use Rattle.record_tests.proofs.formed_at.Tie as tie
-use Rattle.places.proofs.locate.Reads as locate-reads
-use Rattle.record_tests.proofs.are_found.Reads as are-found-reads
 
 abbrev asked : tie.Start → ℕ → ℕ → Request
 asked s i o = request (s .args .s .now) (s .args .p) (s .args .g) (length (s .args .ws .now)) i o
@@ -67,7 +65,7 @@ are-found-requires c κs =
     let A = accepted (asked s (s .pre .0) (s .pre .1)) (s .pre .3) in
     let k = eight (s .args .t1) _ (s .good .0) in
     let t = c .before .before .before .if1 .left in
-    (omega arith, omega (arith, A .subsets .1), A .pairs .1, omega (arith, k, t, shallow e), omega (arith, t, shallow e), A .room)
+    (omega arith, omega (arith, A .subsets .1), A .pairs .1, omega (arith, k, t, shallow e), omega (arith, t, shallow e), omega arith, A .room)
 
 returns-3 : tie.Need-returns-3
 returns-3 c =

@@ -85,7 +85,7 @@ tabulate-here-requires c κs =
     let s = start e in
     let A = accepted (asking s) (passed e) in
     let y = sym (c .before .before .before .starts-at .ensures) ∙ not-false _ (c .before .before .if1 .left) in
-    ((omega arith, omega arith, A .pairs .0, A .pairs .1, starts-within labelCount (s .args .s .now) (s .args .asked) y), ((counts e, check-bytes labelCount (asking s) (counts e) (passed e)), A .room, plain-within (s .args .p) (s .args .g)))
+    ((omega arith, omega arith, A .pairs .0, A .pairs .1, starts-within labelCount (s .args .s .now) (s .args .asked) y), ((counts e, check-bytes labelCount (asking s) (counts e) (passed e), omega (arith, A .joined .limited .deepest)), A .room, plain-within (s .args .p) (s .args .g), omega arith))
 
 same-length : tie.Need-same-length
 same-length c = search needs

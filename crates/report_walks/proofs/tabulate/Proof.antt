@@ -24,10 +24,6 @@ use native.Mathlib.Omega.{arith}
 use borrow.Author.Needs.{needs}
 use Rattle.report_walks.proofs.tabulate.Statement.{statement}
 use Rattle.report_walks.proofs.tabulate.Tie as tie
-use Rattle.reporting.proofs.report_newest.Reads as report-newest-reads
-use Rattle.stacks.proofs.clear_need.Reads as clear-need-reads
-use Rattle.stacks.proofs.clear_tables.Reads as clear-tables-reads
-use Rattle.walks.proofs.walk.Reads as walk-reads
 
 abbrev start : tie.After-clear-need → tie.Start
 start c = c .before .before .before .before .before .before .before .before .before
@@ -35,12 +31,12 @@ start c = c .before .before .before .before .before .before .before .before .bef
 -- no table stands in the cleared words
 module _ (c : tie.After-clear-need) where
   abbrev back : List ℕ
-  back = let s = start c in behind (s .args .w) (s .args .p) (s .args .need) (s .args .ws .now) (s .pre .1 .1 .2)
+  back = let s = start c in behind (s .args .d) (s .args .w) (s .args .p) (s .args .need) (s .args .ws .now) (s .pre .1 .1 .2)
 
-  none : Stands Nothing (depthLimit + 1) (start c .args .w) (start c .args .p) [] back (c .clear-need .last .0) (start c .args .vals .now) (start c .args .counts .now)
+  none : Stands Nothing (start c .args .d) (start c .args .w) (start c .args .p) [] back (c .clear-need .last .0) (start c .args .vals .now) (start c .args .counts .now)
   none =
       let s = start c in
-      stands-clear (s .args .w) (s .args .p) (s .args .need) (s .args .ws .now) (s .pre .1 .1 .2) Nothing (c .clear-need .last .0) (s .args .vals .now) (s .args .counts .now) (c .clear-need .ensures) (s .pre .1 .0 .0) (roomy-nothing (depthLimit + 1) (s .args .p) (s .args .vals .now))
+      stands-clear (s .args .d) (s .args .w) (s .args .p) (s .args .need) (s .args .ws .now) (s .pre .1 .1 .2) Nothing (c .clear-need .last .0) (s .args .vals .now) (s .args .counts .now) (c .clear-need .ensures) (s .pre .1 .0 .0) (roomy-nothing (s .args .d) (s .args .p) (s .args .vals .now)) (omega (arith, s .pre .1 .1 .0 .2)) (s .pre .1 .1 .3)
 
 abbrev origin : tie.After-walk → tie.After-clear-need
 origin u = u .before .before .before .before .before .before .before .before
@@ -50,7 +46,7 @@ module _ (u : tie.After-walk) where
   abbrev Reach : Reached → Type 0
   Reach r =
       let s = start (origin u) in
-      Reaches (s .args .kind) Nothing (byMasks (s .args .assumed-true) (s .args .assumed-false)) (depthLimit + 1) (s .args .w) (s .args .p) (s .args .asked + 1) (s .args .s .now) (back (origin u)) (u .walk .last .1 .1 .0) (u .walk .last .1 .1 .1 .1 .1 .0) (u .walk .last .1 .1 .1 .1 .1 .1 .0) r
+      Reaches (s .args .kind) Nothing (byMasks (s .args .assumed-true) (s .args .assumed-false)) (s .args .d) (s .args .w) (s .args .p) (s .args .asked + 1) (s .args .s .now) (back (origin u)) (u .walk .last .1 .1 .0) (u .walk .last .1 .1 .1 .1 .1 .0) (u .walk .last .1 .1 .1 .1 .1 .1 .0) r
 
   reach : Reach (u .walk .result)
   reach = u .walk .ensures (back (origin u)) (none (origin u))
@@ -86,7 +82,7 @@ clear-tables-requires c κs =
     let u = e .before .before .before .before .before .before .before .before .before .before .before .before in
     let s = start (origin u) in
     let R = subst (Reach u) (e .r .given .1) (reach u) in
-    (wide-two (s .args .kind) (s .args .w) (s .pre .0 .0), (depthLimit + 1, R .1 .0, back (origin u), R .1 .1))
+    (wide-two (s .args .kind) (s .args .w) (s .pre .0 .0), (s .args .d, R .1 .0, back (origin u), R .1 .1))
 
 enum-known-r-2 : tie.Need-enum-known-r-2
 enum-known-r-2 c = search needs
@@ -97,14 +93,14 @@ report-newest-requires c κs =
     let u = walked-by e in
     let s = start (origin u) in
     let R = through e in
-    ((wide-two (s .args .kind) (s .args .w) (s .pre .0 .0), s .pre .0 .1, s .pre .0 .3, R .5 (omega arith)), (R .0, back (origin u), u .walk .last .1 .1 .1 .1 .1 .0, R .2, R .3))
+    ((wide-two (s .args .kind) (s .args .w) (s .pre .0 .0), s .pre .0 .1, s .pre .0 .3, R .5 (omega arith)), (s .args .d, R .0, back (origin u), u .walk .last .1 .1 .1 .1 .1 .0, R .2, R .3))
 
 clear-tables-requires-2 : tie.Need-clear-tables-requires-2
 clear-tables-requires-2 c κs =
     let e = c .before .before .before .before .before .before .before .before .before in
     let s = start (origin (walked-by e)) in
     let R = through e in
-    (wide-two (s .args .kind) (s .args .w) (s .pre .0 .0), (depthLimit + 1, map pairsOf (R .0), back (origin (walked-by e)), holds-counted depthLimit (R .2 .holds) (R .3) (R .2 .tallies)))
+    (wide-two (s .args .kind) (s .args .w) (s .pre .0 .0), (s .args .d, map pairsOf (R .0), back (origin (walked-by e)), holds-counted depthLimit (R .2 .holds) (R .3) (R .2 .tallies)))
 
 same-length : tie.Need-same-length
 same-length c = search needs
@@ -128,7 +124,7 @@ returns c =
     let u = e .before .before .before .before .before .before .before .before .before .before .before .before in
     let s = start (origin u) in
     let R = subst (Reach u) (e .r .given .1) (reach u) in
-    (sym (ap (λ (v : Walked Entry). reportAnswer (λ (x : List Entry). reportOf (s .args .kind) (pairsOf x)) (length (s .args .out .now)) (s .args .asked) (newestIn v)) (R .0)), (sym (ap (λ (v : Walked Entry). reportBuffer (λ (x : List Entry). reportOf (s .args .kind) (pairsOf x)) (s .args .out .now) (newestIn v)) (R .0)), all-clear (s .args .w) (s .args .p) (s .args .need) (s .args .ws .now) (s .pre .1 .1 .2) _ (d .clear-tables .ensures (depthLimit + 1) (R .1 .0) (back (origin u)) (R .1 .1))))
+    (sym (ap (λ (v : Walked Entry). reportAnswer (λ (x : List Entry). reportOf (s .args .kind) (pairsOf x)) (length (s .args .out .now)) (s .args .asked) (newestIn v)) (R .0)), (sym (ap (λ (v : Walked Entry). reportBuffer (λ (x : List Entry). reportOf (s .args .kind) (pairsOf x)) (s .args .out .now) (newestIn v)) (R .0)), all-clear (s .args .d) (s .args .w) (s .args .p) (s .args .need) (s .args .ws .now) (s .pre .1 .1 .2) _ (d .clear-tables .ensures (s .args .d) (R .1 .0) (back (origin u)) (R .1 .1))))
 
 same-length-6 : tie.Need-same-length-6
 same-length-6 c = c .before .before .clear-tables2 .kept .0 ∙ long (walked-by (c .before .before .before .before .before .before .before .before .before .before .before .before))
@@ -156,8 +152,8 @@ returns-2 c =
     let u = walked-by e in
     let s = start (origin u) in
     let R = through e in
-    let N = n .ensures (R .0) (back (origin u)) (u .walk .last .1 .1 .1 .1 .1 .0) (R .2) (R .3) in
-    (N .0 ∙ sym (ap (λ (v : Walked Entry). reportAnswer (λ (x : List Entry). reportOf (s .args .kind) (pairsOf x)) (length (s .args .out .now)) (s .args .asked) (newestIn v)) (R .1)), (N .1 ∙ sym (ap (λ (v : Walked Entry). reportBuffer (λ (x : List Entry). reportOf (s .args .kind) (pairsOf x)) (s .args .out .now) (newestIn v)) (R .1)), all-clear (s .args .w) (s .args .p) (s .args .need) (s .args .ws .now) (s .pre .1 .1 .2) _ (d .clear-tables2 .ensures (depthLimit + 1) (map pairsOf (R .0)) (back (origin u)) (holds-counted depthLimit (R .2 .holds) (R .3) (R .2 .tallies)))))
+    let N = n .ensures (s .args .d) (R .0) (back (origin u)) (u .walk .last .1 .1 .1 .1 .1 .0) (R .2) (R .3) in
+    (N .0 ∙ sym (ap (λ (v : Walked Entry). reportAnswer (λ (x : List Entry). reportOf (s .args .kind) (pairsOf x)) (length (s .args .out .now)) (s .args .asked) (newestIn v)) (R .1)), (N .1 ∙ sym (ap (λ (v : Walked Entry). reportBuffer (λ (x : List Entry). reportOf (s .args .kind) (pairsOf x)) (s .args .out .now) (newestIn v)) (R .1)), all-clear (s .args .d) (s .args .w) (s .args .p) (s .args .need) (s .args .ws .now) (s .pre .1 .1 .2) _ (d .clear-tables2 .ensures (s .args .d) (map pairsOf (R .0)) (back (origin u)) (holds-counted depthLimit (R .2 .holds) (R .3) (R .2 .tallies)))))
 
 pub tabulate-spec : {M : Type 1} → statement M
 tabulate-spec =

@@ -7,7 +7,7 @@ use lib.ListN.{length, drop}
 use Rattle.labels.specs.Labels.{labelCount}
 use Rattle.expression.specs.declared.Command.{Command}
 use Rattle.expression.specs.declared.Read.the-variants.{Command as Got}
-use Rattle.expression.specs.Limits.{depthLimit, workspaceNeed}
+use Rattle.expression.specs.Limits.{workspaceNeed, areaCount}
 use Rattle.expression.specs.Checks.{Request}
 use Rattle.expression.specs.Commands.{readAt}
 use Rattle.entries.specs.declared.Carry.the-variants.{Nothing}
@@ -23,17 +23,13 @@ use Rattle.steps.proofs.Moving.{made, meant, refused-follows, moved-fol
 use borrow.Author.Needs.{needs}
 use Rattle.steps.proofs.command.Statement.{statement}
 use Rattle.steps.proofs.command.Tie as tie
-use Rattle.commands.proofs.counting.counted.Reads as counted-reads
-use Rattle.reader.proofs.read_next.Reads as read-next-reads
-use Rattle.advances.proofs.advance_here.Reads as advance-here-reads
-use Rattle.advances.proofs.fault_of.Reads as fault-of-reads
 
 abbrev asked : tie.Start → Request
 asked s = request (s .args .s .now) (s .args .p) (s .args .g) (length (s .args .ws .now)) (s .args .assumed-true) (s .args .assumed-false)
 
 module _ (s : tie.Start) where
   -- the tables found stand
-  standing : Stands Nothing (depthLimit + 1) (s .args .g + 2) (s .args .p) (map bare (found labelCount (asked s) (s .args .state) (s .args .ws .now))) (drop (workspaceNeed (s .args .p) (s .args .g)) (s .args .ws .now)) (s .args .ws .now) [] (s .args .state .counts)
+  standing : Stands Nothing areaCount (s .args .g + 2) (s .args .p) (map bare (found labelCount (asked s) (s .args .state) (s .args .ws .now))) (drop (workspaceNeed (s .args .p) (s .args .g)) (s .args .ws .now)) (s .args .ws .now) [] (s .args .state .counts)
   standing = stands (asked s) (s .args .state) (s .args .ws .now) (s .pre .0 .1) (s .pre .1) refl (eight (s .args .state) _ (s .good .0))
 
   as-many : length (map bare (found labelCount (asked s) (s .args .state) (s .args .ws .now))) ≡ s .args .state .tables
@@ -64,7 +60,7 @@ module _ (v : tie.After-advance-here) where
   abbrev s : tie.Start
   s = origin given
 
-  acted : Advanced Nothing (depthLimit + 1) (s .args .g + 2) (s .args .p) (made (asked s) (s .args .n .atoms) (action given) (found labelCount (asked s) (s .args .state) (s .args .ws .now))) (drop (workspaceNeed (s .args .p) (s .args .g)) (s .args .ws .now)) (v .advance-here .result) (s .args .ws .now) (s .args .state .counts) (v .advance-here .last .0) [] (v .advance-here .last .1 .0)
+  acted : Advanced Nothing areaCount (s .args .g + 2) (s .args .p) (made (asked s) (s .args .n .atoms) (action given) (found labelCount (asked s) (s .args .state) (s .args .ws .now))) (drop (workspaceNeed (s .args .p) (s .args .g)) (s .args .ws .now)) (v .advance-here .result) (s .args .ws .now) (s .args .state .counts) (v .advance-here .last .0) [] (v .advance-here .last .1 .0)
   acted = v .advance-here .ensures _ _ (resolved .atom-at .ensures) _ _ (standing s) (as-many s)
 
   commands : command labelCount (asked s) (s .args .n) (s .args .state) (s .args .ws .now) ≡ moveTo labelCount (asked s) (next given) (meant (asked s) (s .args .n .atoms) (action given) (found labelCount (asked s) (s .args .state) (s .args .ws .now))) (s .args .state) (s .args .ws .now)

@@ -5,7 +5,6 @@ use native.Mathlib.Omega.{arith}
 use borrow.Author.Needs.{needs}
 use Rattle.tabulating.proofs.tabulate_here.Statement.{statement}
 use Rattle.tabulating.proofs.tabulate_here.Tie as tie
-use Rattle.tabulating.proofs.tabulate_in.Reads as tabulate-in-reads
 
 slice-aggregate-tabulate-in : tie.Need-slice-aggregate-tabulate-in
 slice-aggregate-tabulate-in c = search needs

@@ -5,7 +5,6 @@ use borrow.Author.Needs.{needs}
 use borrow.Author.Needs.{needs}
 use Rattle.tabulating.proofs.tabulate_in.Statement.{statement}
 use Rattle.tabulating.proofs.tabulate_in.Tie as tie
-use Rattle.report_walks.proofs.tabulate.Reads as tabulate-reads
 
 slice-relend-prefix-tabulate : tie.Need-slice-relend-prefix-tabulate
 slice-relend-prefix-tabulate c = search needs

@@ -13,7 +13,6 @@ use Rattle.verdicts.proofs.Concluding.{first-within, first-rows, conclu
 use borrow.Author.Needs.{needs}
 use Rattle.verdicts.proofs.conclusion.Statement.{statement}
 use Rattle.verdicts.proofs.conclusion.Tie as tie
-use Rattle.answers.proofs.least_accepting.Reads as least-accepting-reads
 
 abbrev asked : tie.Start → ℕ → ℕ → Request
 asked s i o = request (s .args .s .now) (s .args .p) (s .args .g) (length (s .args .ws .now)) i o

@@ -9,10 +9,6 @@ use Rattle.verdicts.proofs.Cases.{verdict-refused, verdict-unformed, ve
 use borrow.Author.Needs.{needs}
 use Rattle.verdicts.proofs.verdict.Statement.{statement}
 use Rattle.verdicts.proofs.verdict.Tie as tie
-use Rattle.checks.proofs.checking.check.Reads as check-reads
-use Rattle.checks.proofs.outcomes.refusal.Reads as refusal-reads
-use Rattle.verdicts.proofs.conclusion.Reads as conclusion-reads
-use Rattle.record_tests.proofs.formed_at.Reads as formed-at-reads
 
 abbrev asked : tie.Start → Request
 asked s = request (s .args .s .now) (s .args .p) (s .args .g) (length (s .args .ws .now)) (s .args .assumed-true) (s .args .assumed-false)

@@ -1,14 +1,13 @@
 -- `walks::walk_by`: what is left of the expression, from the tables at hand, leads to what the whole walk gives.
 use mathlib.Core.Path.{_≡_, refl, sym, _∙_}
 use mathlib.Core.List.{List, [], map}
-use Prim.Native.Nat.{ℕ, _+_, _-_, _*_, _≤_, _<_}
+use Prim.Native.Nat.{ℕ, _-_, _≤_, _<_}
 use lib.ListN.{length}
 use Rattle.labels.specs.Labels.{labelCount}
 use Rattle.expression.specs.declared.Counts.{Counts}
 use Rattle.expression.specs.declared.Checked.the-variants.{Passed}
 use Rattle.expression.specs.declared.Read.the-variants.{Command as Got}
 use Rattle.expression.specs.Commands.{readAt}
-use Rattle.expression.specs.Limits.{depthLimit}
 use Rattle.expression.specs.Checks.{checkBytes}
 use Rattle.expression.proofs.Commands.{read-ends}
 use Rattle.expression.proofs.Checks.{bytes-joined}
@@ -26,13 +25,13 @@ use Rattle.walks.proofs.walk_by.Statement.{statement}
 use Rattle.walks.proofs.walk_by.Tie as tie
 
 abbrev Inv-loop : tie.InvT-loop
-Inv-loop s stop ws₀ row₀ index₀ vals₀ counts₀ ops₀ kind carry w p assumed-true assumed-false at₀ n₀ ws row index vals counts ops at n =
+Inv-loop s stop ws₀ row₀ index₀ vals₀ counts₀ ops₀ kind carry d w p assumed-true assumed-false at₀ n₀ ws row index vals counts ops at n =
     (length row ≡ w) × (length ws ≡ length ws₀) × (length index ≡ length index₀) × (length vals ≡ length vals₀) × (length counts ≡ length counts₀) × (length ops ≡ length ops₀)
-    × ((z : Counts) (beyond : List ℕ) → checkBytes labelCount s ≡ Passed z → Stands carry (depthLimit + 1) w p [] beyond ws₀ vals₀ counts₀
-    → Going kind carry (byMasks assumed-true assumed-false) w p stop s z beyond at n ws vals counts)
+    × ((z : Counts) (beyond : List ℕ) → checkBytes labelCount s ≡ Passed z → Stands carry d w p [] beyond ws₀ vals₀ counts₀
+    → Going kind carry (byMasks assumed-true assumed-false) w p stop s d z beyond at n ws vals counts)
 
 abbrev μ-loop : tie.MeasureT-loop
-μ-loop s stop ws₀ row₀ index₀ vals₀ counts₀ ops₀ kind carry w p assumed-true assumed-false at₀ n₀ ws row index vals counts ops at n = stop - at
+μ-loop s stop ws₀ row₀ index₀ vals₀ counts₀ ops₀ kind carry d w p assumed-true assumed-false at₀ n₀ ws row index vals counts ops at n = stop - at
 
 abbrev first : tie.At-loop Inv-loop μ-loop → tie.Start Inv-loop μ-loop
 first c = c .before .before .before .before .before .before .before .before .before
@@ -42,8 +41,8 @@ module _ (c : tie.At-loop Inv-loop μ-loop) where
   abbrev s₀ : tie.Start Inv-loop μ-loop
   s₀ = first c
 
-  going : (beyond : List ℕ) → Stands (s₀ .args .carry) (depthLimit + 1) (s₀ .args .w) (s₀ .args .p) [] beyond (s₀ .args .ws .now) (s₀ .args .vals .now) (s₀ .args .counts .now)
-      → Going (s₀ .args .kind) (s₀ .args .carry) (byMasks (s₀ .args .assumed-true) (s₀ .args .assumed-false)) (s₀ .args .w) (s₀ .args .p) (s₀ .args .stop) (s₀ .args .s .now) (s₀ .pre .1 .0 .0) beyond (c .loop .at) (c .loop .n) (c .loop .ws) (c .loop .vals) (c .loop .counts)
+  going : (beyond : List ℕ) → Stands (s₀ .args .carry) (s₀ .args .d) (s₀ .args .w) (s₀ .args .p) [] beyond (s₀ .args .ws .now) (s₀ .args .vals .now) (s₀ .args .counts .now)
+      → Going (s₀ .args .kind) (s₀ .args .carry) (byMasks (s₀ .args .assumed-true) (s₀ .args .assumed-false)) (s₀ .args .w) (s₀ .args .p) (s₀ .args .stop) (s₀ .args .s .now) (s₀ .args .d) (s₀ .pre .1 .0 .0) beyond (c .loop .at) (c .loop .n) (c .loop .ws) (c .loop .vals) (c .loop .counts)
   going beyond h = c .loop .inv .6 (s₀ .pre .1 .0 .0) beyond (s₀ .pre .1 .0 .1) h
 
 -- and on after commands that were done at once
@@ -79,12 +78,12 @@ module _ (a : tie.After-run-ahead Inv-loop μ-loop) where
   counts-long = a .run-ahead .kept .1 .1 .1 .1 .1 .1 .1 .1 .1 .0 ∙ here .loop .inv .4
 
   abbrev After : Counts → List ℕ → Type 0
-  After z beyond = Going (st .args .kind) (st .args .carry) (byMasks (st .args .assumed-true) (st .args .assumed-false)) (st .args .w) (st .args .p) (st .args .stop) (st .args .s .now) z beyond to (a .run-ahead .result .counts) (a .run-ahead .last .1 .1 .1 .1 .1 .0) (a .run-ahead .last .1 .1 .1 .1 .1 .1 .1 .1 .0) (a .run-ahead .last .1 .1 .1 .1 .1 .1 .1 .1 .1 .0)
+  After z beyond = Going (st .args .kind) (st .args .carry) (byMasks (st .args .assumed-true) (st .args .assumed-false)) (st .args .w) (st .args .p) (st .args .stop) (st .args .s .now) (st .args .d) z beyond to (a .run-ahead .result .counts) (a .run-ahead .last .1 .1 .1 .1 .1 .0) (a .run-ahead .last .1 .1 .1 .1 .1 .1 .1 .1 .0) (a .run-ahead .last .1 .1 .1 .1 .1 .1 .1 .1 .1 .0)
 
-  after : (z : Counts) (beyond : List ℕ) → Going (st .args .kind) (st .args .carry) (byMasks (st .args .assumed-true) (st .args .assumed-false)) (st .args .w) (st .args .p) (st .args .stop) (st .args .s .now) z beyond (here .loop .at) (here .loop .n) (here .loop .ws) (here .loop .vals) (here .loop .counts) → After z beyond
+  after : (z : Counts) (beyond : List ℕ) → Going (st .args .kind) (st .args .carry) (byMasks (st .args .assumed-true) (st .args .assumed-false)) (st .args .w) (st .args .p) (st .args .stop) (st .args .s .now) (st .args .d) z beyond (here .loop .at) (here .loop .n) (here .loop .ws) (here .loop .vals) (here .loop .counts) → After z beyond
   after z beyond g = going-ahead (st .args .kind) (st .args .carry) (byMasks (st .args .assumed-true) (st .args .assumed-false)) (st .args .w) (st .args .p) (st .args .stop) (st .args .s .now) (wide-two (st .args .kind) (st .args .w) (st .pre .0 .0)) (st .pre .0 .2) (st .pre .0 .6) g (a .run-ahead .ensures (g .stack) beyond (g .stands) (g .leading .deep))
 
-  going-after : (beyond : List ℕ) → Stands (st .args .carry) (depthLimit + 1) (st .args .w) (st .args .p) [] beyond (st .args .ws .now) (st .args .vals .now) (st .args .counts .now) → After (st .pre .1 .0 .0) beyond
+  going-after : (beyond : List ℕ) → Stands (st .args .carry) (st .args .d) (st .args .w) (st .args .p) [] beyond (st .args .ws .now) (st .args .vals .now) (st .args .counts .now) → After (st .pre .1 .0 .0) beyond
   going-after beyond h = after (st .pre .1 .0 .0) beyond (going here beyond h)
 
   -- they go forward
@@ -94,8 +93,8 @@ module _ (a : tie.After-run-ahead Inv-loop μ-loop) where
       chain-up (st .args .s .now) (st .args .stop) (here .loop .at) to _ (a .run-ahead .ensures (g .stack) (st .pre .1 .1 .0) (g .stands) (g .leading .deep) .chain)
 
 -- all commands are passed
-ended : (st : tie.Start Inv-loop μ-loop) {beyond : List ℕ} {at : ℕ} {n : Counts} {ws vals counts : List ℕ} (g : Going (st .args .kind) (st .args .carry) (byMasks (st .args .assumed-true) (st .args .assumed-false)) (st .args .w) (st .args .p) (st .args .stop) (st .args .s .now) (st .pre .1 .0 .0) beyond at n ws vals counts) → st .args .stop ≤ at
-    → Reaches (st .args .kind) (st .args .carry) (byMasks (st .args .assumed-true) (st .args .assumed-false)) (depthLimit + 1) (st .args .w) (st .args .p) (st .args .stop) (st .args .s .now) beyond ws vals counts (Through (n .depth))
+ended : (st : tie.Start Inv-loop μ-loop) {beyond : List ℕ} {at : ℕ} {n : Counts} {ws vals counts : List ℕ} (g : Going (st .args .kind) (st .args .carry) (byMasks (st .args .assumed-true) (st .args .assumed-false)) (st .args .w) (st .args .p) (st .args .stop) (st .args .s .now) (st .args .d) (st .pre .1 .0 .0) beyond at n ws vals counts) → st .args .stop ≤ at
+    → Reaches (st .args .kind) (st .args .carry) (byMasks (st .args .assumed-true) (st .args .assumed-false)) (st .args .d) (st .args .w) (st .args .p) (st .args .stop) (st .args .s .now) beyond ws vals counts (Through (n .depth))
 ended st g l =
     (g .stack, going-ends (st .args .kind) (st .args .carry) (byMasks (st .args .assumed-true) (st .args .assumed-false)) (st .args .w) (st .args .p) (st .args .stop) (st .args .s .now) (g .leading) (st .pre .0 .6) l, g .stands, g .leading .deep, λ e. ends-joined (st .args .kind) (st .args .carry) (byMasks (st .args .assumed-true) (st .args .assumed-false)) (st .args .w) (st .args .p) (st .args .stop) (st .args .s .now) (g .leading) (st .pre .0 .6) (bytes-joined labelCount (st .args .s .now) (st .pre .1 .0 .0) (st .pre .1 .0 .1) .joined) l e, λ m. g .leading .begun (omega (arith, l, m)))
 
@@ -205,7 +204,7 @@ advance-requires c κs =
     let a = by e in
     let s = st a in
     let g = going-after a (s .pre .1 .1 .0) (s .pre .1 .1 .1) in
-    ((s .pre .0 .0, s .pre .0 .1, s .pre .0 .2, s .pre .0 .3, omega arith, row-long a, omega (arith, s .pre .0 .5, index-long a)), ((suits (st a .args .kind) (st a .args .carry) (byMasks (st a .args .assumed-true) (st a .args .assumed-false)) (st a .args .w) (st a .args .p) (st a .args .stop) (st a .args .s .now) (g .leading) (s .pre .0 .6) (there e) _ _ (got e), meets (st a .args .kind) (st a .args .carry) (byMasks (st a .args .assumed-true) (st a .args .assumed-false)) (st a .args .w) (st a .args .p) (st a .args .stop) (st a .args .s .now) (g .leading) (s .pre .0 .6) (there e) _ _ (got e), (_, _, x .atom-at .ensures)), (g .stack, s .pre .1 .1 .0, g .stands, g .leading .deep)))
+    ((s .pre .0 .0, s .pre .0 .1, s .pre .0 .2, s .pre .0 .3, row-long a, omega (arith, s .pre .0 .5, index-long a)), ((suits (st a .args .kind) (st a .args .carry) (byMasks (st a .args .assumed-true) (st a .args .assumed-false)) (st a .args .w) (st a .args .p) (st a .args .stop) (st a .args .s .now) (g .leading) (s .pre .0 .6) (there e) _ _ (got e), meets (st a .args .kind) (st a .args .carry) (byMasks (st a .args .assumed-true) (st a .args .assumed-false)) (st a .args .w) (st a .args .p) (st a .args .stop) (st a .args .s .now) (g .leading) (s .pre .0 .6) (there e) _ _ (got e) (s .pre .1 .0 .2), (_, _, x .atom-at .ensures)), (g .stack, s .pre .1 .1 .0, g .stands, g .leading .deep)))
 
 fault-of-requires : tie.Need-fault-of-requires Inv-loop μ-loop
 fault-of-requires c κs = let s = st (by (told (c .before .before .before .before .before .before .before .before .before .before .before))) in (omega (arith, c .if2 .taken), s .pre .0 .3)
