@@ -7,7 +7,7 @@ use expression::refusals::SUBSETS_FULL;
 use leaves::Atom;
 use leaves::Tables;
 ghost use mathlib.Core.Path.{_≡_};
-ghost use mathlib.Core.List.{List};
+ghost use mathlib.Core.List.{[]};
 ghost use Prim.Native.Nat.{ℕ, _+_, _-_, _≤_, _<_};
 ghost use lib.ListN.{length};
 ghost use Rattle.labels.specs.Labels.{labelCount};
@@ -16,12 +16,11 @@ ghost use Rattle.semantics.specs.Expressions.{act};
 ghost use Rattle.semantics.specs.AnswerSets.{Assumptions};
 ghost use Rattle.tables.specs.Algebras.{tables};
 ghost use Rattle.entries.specs.declared.Carry.the-variants.{Nothing};
-ghost use Rattle.entries.specs.Carries.{Entry};
-ghost use Rattle.leaves.specs.Leaves.{tableAlgebra, atomAt, Resolved, Wide};
+ghost use Rattle.leaves.specs.declared.Tables.the-variants.{Pairs};
+ghost use Rattle.leaves.specs.Leaves.{atomAt, Resolved, Wide};
 ghost use Rattle.workspace.specs.Workspace.{faultOf};
 ghost use Rattle.operations.specs.Operations.{Meets};
-ghost use Rattle.advances.specs.Advances.{Stands, Advanced};
-ghost use Rattle.advances.specs.Bare.{SomeStand, Advances};
+ghost use Rattle.advances.specs.Advances.{SomeStand, Advances};
 
 // 15 or 16, by the count that a command answers.
 pub fn fault_of(p: usize, r: usize) -> u64
@@ -52,8 +51,8 @@ pub fn advance(
 ) -> usize
     requires { ⌜ Wide kind w × (w ≤ 4096) × (1 ≤ p) × (p ≤ 1024) × (length (now row) ≡ w) × (p ≤ length (now index)) ⌝ }
     requires { ⌜ Suits labelCount c × Meets c d t × Resolved carry atom ⌝ }
-    requires { ⌜ ((ts : List (List Entry)) × (beyond : List ℕ) × Stands carry d w p ts beyond (now ws) (now vals) (now counts) × (length ts ≡ t)) ⌝ }
-    ensures { λ r. ⌜ ((o : Assumptions) (a : ℕ) → atom ≡ atomAt carry o a → (ts : List (List Entry)) (beyond : List ℕ) → Stands carry d w p ts beyond (now (ws .entry)) (now (vals .entry)) (now (counts .entry)) → length ts ≡ t → Advanced carry d w p (act (tables (tableAlgebra kind carry) o) a c ts) beyond r (now (ws .entry)) (now (counts .entry)) (now (ws .exit)) (now (vals .exit)) (now (counts .exit))) ⌝ }
+    requires { ⌜ SomeStand carry d w p t (now ws) (now vals) (now counts) ⌝ }
+    ensures { λ r. ⌜ ((o : Assumptions) (a : ℕ) → atom ≡ atomAt carry o a → Advances kind carry d w p t c a o r (now (ws .entry)) (now (vals .entry)) (now (counts .entry)) (now (ws .exit)) (now (vals .exit)) (now (counts .exit))) ⌝ }
 {
     let n = stacks::count_below(&counts[..], t, 1);
     let m = stacks::count_below(&counts[..], t, 2);
@@ -79,8 +78,8 @@ fn advance_in(
     atom: Atom,
 ) -> usize
     requires { ⌜ (3 ≤ w) × (w ≤ 1026) × (1 ≤ p) × (p ≤ 1024) × (w ≤ length (now row)) × (p ≤ length (now index)) ⌝ }
-    requires { ⌜ Suits labelCount c × Meets c d t × Resolved Nothing atom × SomeStand d w p t (now ws) (now counts) ⌝ }
-    ensures { λ r. ⌜ ((o : Assumptions) (a : ℕ) → atom ≡ atomAt Nothing o a → Advances d w p t c a o r (now (ws .entry)) (now (counts .entry)) (now (ws .exit)) (now (counts .exit))) ⌝ }
+    requires { ⌜ Suits labelCount c × Meets c d t × Resolved Nothing atom × SomeStand Nothing d w p t (now ws) [] (now counts) ⌝ }
+    ensures { λ r. ⌜ ((o : Assumptions) (a : ℕ) → atom ≡ atomAt Nothing o a → Advances Pairs Nothing d w p t c a o r (now (ws .entry)) [] (now (counts .entry)) (now (ws .exit)) [] (now (counts .exit))) ⌝ }
 {
     advance(
         ws,
@@ -111,8 +110,8 @@ pub fn advance_here(
     atom: Atom,
 ) -> usize
     requires { ⌜ (3 ≤ w) × (w ≤ 1026) × (1 ≤ p) × (p ≤ 1024) ⌝ }
-    requires { ⌜ Suits labelCount c × Meets c d t × Resolved Nothing atom × SomeStand d w p t (now ws) (now counts) ⌝ }
-    ensures { λ r. ⌜ ((o : Assumptions) (a : ℕ) → atom ≡ atomAt Nothing o a → Advances d w p t c a o r (now (ws .entry)) (now (counts .entry)) (now (ws .exit)) (now (counts .exit))) ⌝ }
+    requires { ⌜ Suits labelCount c × Meets c d t × Resolved Nothing atom × SomeStand Nothing d w p t (now ws) [] (now counts) ⌝ }
+    ensures { λ r. ⌜ ((o : Assumptions) (a : ℕ) → atom ≡ atomAt Nothing o a → Advances Pairs Nothing d w p t c a o r (now (ws .entry)) [] (now (counts .entry)) (now (ws .exit)) [] (now (counts .exit))) ⌝ }
 {
     let mut row = [0u32; 1026];
     let mut index = [0u32; 1024];

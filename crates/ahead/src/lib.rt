@@ -11,7 +11,7 @@ ghost use Rattle.semantics.specs.Expressions.{changeNewest};
 ghost use Rattle.batches.specs.Batches.{batchLimit, commandsOf};
 ghost use Rattle.entries.specs.Carries.{Entry};
 ghost use Rattle.maps.specs.Maps.{batchedTable};
-ghost use Rattle.advances.specs.Advances.{Stands};
+ghost use Rattle.advances.specs.Advances.{Stands, SomeStand};
 ghost use Rattle.ahead.specs.Ahead.{Ahead};
 
 // The commands that the words of ops stand for, at once on the newest of t tables in d areas, and its count.
@@ -29,7 +29,7 @@ fn map_ahead(
     ops: &[u32],
 )
     requires { ⌜ (2 ≤ w) × (w ≤ 4096) × (p ≤ 1024) × (length (now row) ≡ w) × (p ≤ length (now index)) × (length (now ops) ≤ batchLimit) ⌝ }
-    requires { ⌜ (1 ≤ t) × ((ts : List (List Entry)) × (beyond : List ℕ) × Stands carry d w p ts beyond (now ws) (now vals) (now counts) × (length ts ≡ t)) ⌝ }
+    requires { ⌜ (1 ≤ t) × SomeStand carry d w p t (now ws) (now vals) (now counts) ⌝ }
     ensures { λ _. ⌜ ((ts : List (List Entry)) (beyond : List ℕ) → Stands carry d w p ts beyond (now (ws .entry)) (now (vals .entry)) (now (counts .entry)) → length ts ≡ t → Stands carry d w p (changeNewest (batchedTable carry (commandsOf (now (ops .entry)))) ts) beyond (now (ws .exit)) (now (vals .exit)) (now (counts .exit))) ⌝ }
 {
     let n = stacks::count_below(&counts[..], t, 1);
@@ -55,7 +55,7 @@ pub fn run_ahead(
     p: usize,
 ) -> Stretch
     requires { ⌜ (2 ≤ w) × (w ≤ 4096) × (p ≤ 1024) × (length (now row) ≡ w) × (p ≤ length (now index)) × (length (now ops) ≤ batchLimit) ⌝ }
-    requires { ⌜ ((ts : List (List Entry)) × (beyond : List ℕ) × Stands carry d w p ts beyond (now ws) (now vals) (now counts) × (length ts ≡ n .depth)) ⌝ }
+    requires { ⌜ SomeStand carry d w p (n .depth) (now ws) (now vals) (now counts) ⌝ }
     ensures { λ r. ⌜ ((ts : List (List Entry)) (beyond : List ℕ) → Stands carry d w p ts beyond (now (ws .entry)) (now (vals .entry)) (now (counts .entry)) → length ts ≡ n .depth → Ahead carry d w p stop at n (now (s .entry)) ts beyond r (now (ws .exit)) (now (vals .exit)) (now (counts .exit))) ⌝ }
 {
     if n.depth == 0 {

@@ -9,8 +9,8 @@ use Rattle.values.specs.Values.{noValue}
 use Rattle.batches.specs.Batches.{batchPair, wordsPair}
 use Rattle.entries.specs.declared.Carry.{Carry}
 use Rattle.entries.specs.declared.Carry.the-variants.{Nothing, First, Consequences}
-use Rattle.entries.specs.Carries.{Entry}
-use Rattle.making.specs.Making.{tableOfAll, entryAt}
+use Rattle.entries.specs.Carries.{Entry, valueArea}
+use Rattle.making.specs.Making.{tableOfAll, entryAt, entriesAt}
 
 -- the entry with its pair mapped; its value stays
 abbrev pub batched : List Command → Entry → Entry
@@ -23,6 +23,13 @@ worded code x = record { item = wordsPair labelCount code (x .item); value = x .
 -- the entry of the row at word ra, with a value, mapped
 abbrev pub wordedAt : ℕ → ℕ → Value → List ℕ → List ℕ → Entry
 wordedAt w ra v code ws = worded code (entryAt w ra v ws)
+
+-- the n entries at word a, whose values stand at word `old` of vals, each mapped
+abbrev pub wordedAll : Carry → ℕ → ℕ → ℕ → ℕ → ℕ → List ℕ → List ℕ → List ℕ → List Entry
+wordedAll carry w p a old n code vals ws = map (worded code) (entriesAt carry w p a n (valueArea carry p old vals) ws)
+
+abbrev pub batchedAll : Carry → ℕ → ℕ → ℕ → ℕ → ℕ → List Command → List ℕ → List ℕ → List Entry
+batchedAll carry w p a old n cs vals ws = map (batched cs) (entriesAt carry w p a n (valueArea carry p old vals) ws)
 
 -- the table of the entries mapped
 abbrev pub batchedTable : Carry → List Command → List Entry → List Entry

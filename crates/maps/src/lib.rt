@@ -2,7 +2,7 @@
 use entries::Carry;
 use values::Value;
 ghost use mathlib.Core.Path.{_≡_};
-ghost use mathlib.Core.List.{[], _∷_, map};
+ghost use mathlib.Core.List.{[], _∷_};
 ghost use Prim.Native.Nat.{_+_, _*_, _≤_};
 ghost use lib.ListN.{length};
 ghost use Rattle.candidates.specs.Candidates.{Readable};
@@ -10,8 +10,8 @@ ghost use Rattle.rows.specs.Parts.{Apart, part, zeros};
 ghost use Rattle.rows.specs.Rows.{Rows};
 ghost use Rattle.batches.specs.Batches.{batchLimit, commandsOf};
 ghost use Rattle.entries.specs.Carries.{Keeps, inWords, valueArea, OnlyArea, Kept};
-ghost use Rattle.making.specs.Making.{Next, Puts, Finished, entriesAt};
-ghost use Rattle.maps.specs.Maps.{batched, worded, wordedAt};
+ghost use Rattle.making.specs.Making.{Next, Puts, Finished};
+ghost use Rattle.maps.specs.Maps.{wordedAt, wordedAll, batchedAll};
 
 // What words of code make of the pair at word ra, with the value v, put into the table that is being made at word `to`. It has no more subsets than
 // before, so it fits. The answer is the count then; p + 1 where there are more than p rows.
@@ -59,8 +59,8 @@ pub fn map_all(
     requires { ⌜ (2 ≤ w) × (w ≤ 4096) × (p ≤ 1024) × (length (now row) ≡ w) ⌝ }
     requires { ⌜ (a + p * w ≤ to) × (to + p * w ≤ length (now ws)) ⌝ }
     requires { ⌜ Rows w p n (part a (p * w) (now ws)) × Apart old made (inWords carry p) (length (now vals)) ⌝ }
-    requires { ⌜ Next carry w p to 0 (map (worded (now code)) (entriesAt carry w p a n (valueArea carry p old (now vals)) (now ws))) (now ws) (now index) (valueArea carry p made (now vals)) ⌝ }
-    ensures { λ r. ⌜ Puts carry w p to 0 (map (worded (now (code .entry))) (entriesAt carry w p a n (valueArea carry p old (now (vals .entry))) (now (ws .entry)))) r (now (ws .entry)) (now (index .entry)) (valueArea carry p made (now (vals .entry))) (now (ws .exit)) (now (index .exit)) (valueArea carry p made (now (vals .exit))) ⌝ }
+    requires { ⌜ Next carry w p to 0 (wordedAll carry w p a old n (now code) (now vals) (now ws)) (now ws) (now index) (valueArea carry p made (now vals)) ⌝ }
+    ensures { λ r. ⌜ Puts carry w p to 0 (wordedAll carry w p a old n (now (code .entry)) (now (vals .entry)) (now (ws .entry))) r (now (ws .entry)) (now (index .entry)) (valueArea carry p made (now (vals .entry))) (now (ws .exit)) (now (index .exit)) (valueArea carry p made (now (vals .exit))) ⌝ }
     ensures { λ _. ⌜ OnlyArea carry p made (now (vals .entry)) (now (vals .exit)) ⌝ }
 {
     let k = entries::words_of(carry, p);
@@ -110,7 +110,7 @@ fn map_fused(
     requires { ⌜ (a + p * w ≤ to) × (to + p * w ≤ length (now ws)) ⌝ }
     requires { ⌜ Rows w p n (part a (p * w) (now ws)) × Apart old made (inWords carry p) (length (now vals)) ⌝ }
     requires { ⌜ (part to (p * w) (now ws) ≡ zeros (p * w)) × (p ≤ length (now index)) × Kept carry p 0 (valueArea carry p made (now vals)) ⌝ }
-    ensures { λ r. ⌜ (r ≤ p) × Finished carry w p a (map (batched (commandsOf (now (ops .entry)))) (entriesAt carry w p a n (valueArea carry p old (now (vals .entry))) (now (ws .entry)))) r (now (ws .entry)) (now (ws .entry)) (now (ws .exit)) (valueArea carry p made (now (vals .exit))) ⌝ }
+    ensures { λ r. ⌜ (r ≤ p) × Finished carry w p a (batchedAll carry w p a old n (commandsOf (now (ops .entry))) (now (vals .entry)) (now (ws .entry))) r (now (ws .entry)) (now (ws .entry)) (now (ws .exit)) (valueArea carry p made (now (vals .exit))) ⌝ }
     ensures { λ _. ⌜ OnlyArea carry p made (now (vals .entry)) (now (vals .exit)) ⌝ }
 {
     let m = fusing::fuse(code, ops);
@@ -153,7 +153,7 @@ pub fn map_table(
     requires { ⌜ (a + p * w ≤ to) × (to + p * w ≤ length (now ws)) ⌝ }
     requires { ⌜ Rows w p n (part a (p * w) (now ws)) × Apart old made (inWords carry p) (length (now vals)) ⌝ }
     requires { ⌜ (part to (p * w) (now ws) ≡ zeros (p * w)) × (p ≤ length (now index)) × Kept carry p 0 (valueArea carry p made (now vals)) ⌝ }
-    ensures { λ r. ⌜ (r ≤ p) × Finished carry w p a (map (batched (commandsOf (now (ops .entry)))) (entriesAt carry w p a n (valueArea carry p old (now (vals .entry))) (now (ws .entry)))) r (now (ws .entry)) (now (ws .entry)) (now (ws .exit)) (valueArea carry p made (now (vals .exit))) ⌝ }
+    ensures { λ r. ⌜ (r ≤ p) × Finished carry w p a (batchedAll carry w p a old n (commandsOf (now (ops .entry))) (now (vals .entry)) (now (ws .entry))) r (now (ws .entry)) (now (ws .entry)) (now (ws .exit)) (valueArea carry p made (now (vals .exit))) ⌝ }
     ensures { λ _. ⌜ OnlyArea carry p made (now (vals .entry)) (now (vals .exit)) ⌝ }
 {
     let mut code = [0u32; batches::BATCH_LIMIT];

@@ -9,7 +9,7 @@ ghost use Rattle.entries.specs.declared.Carry.the-variants.{Nothing};
 ghost use Rattle.entries.specs.Carries.{Entry};
 ghost use Rattle.decisions.specs.Decisions.{newest};
 ghost use Rattle.workspace.specs.Workspace.{pairsOf};
-ghost use Rattle.advances.specs.Advances.{Stands};
+ghost use Rattle.advances.specs.Advances.{Stands, SomeStand};
 ghost use Rattle.reports.specs.Reports.{reportOf};
 ghost use Rattle.reporting.specs.Reporting.{tableAt, reportAnswer, reportBuffer};
 
@@ -31,7 +31,7 @@ pub fn report_newest(
     asked: usize,
 ) -> Report
     requires { ⌜ (2 ≤ w) × (w ≤ 4096) × (p ≤ 1024) × (1 ≤ t) ⌝ }
-    requires { ⌜ ((d : ℕ) × (us : List (List Entry)) × (beyond : List ℕ) × (vals : List ℕ) × Stands Nothing d w p us beyond (now ws) vals (now counts) × (length us ≡ t)) ⌝ }
+    requires { ⌜ ((d : ℕ) × (vals : List ℕ) × SomeStand Nothing d w p t (now ws) vals (now counts)) ⌝ }
     ensures { λ r. ⌜ ((d : ℕ) (us : List (List Entry)) (beyond vals : List ℕ) → Stands Nothing d w p us beyond (now (ws .entry)) vals (now (counts .entry)) → length us ≡ t → (r ≡ reportAnswer (λ x. reportOf kind (pairsOf x)) (length (now (out .entry))) asked (tableAt (newest us))) × (now (out .exit) ≡ reportBuffer (λ x. reportOf kind (pairsOf x)) (now (out .entry)) (tableAt (newest us)))) ⌝ }
 {
     let n = stacks::count_below(counts, t, 1);

@@ -2,17 +2,15 @@
 use entries::Carry;
 use values::Value;
 ghost use mathlib.Core.Path.{_≡_};
-ghost use mathlib.Core.List.{[], _∷_, map};
+ghost use mathlib.Core.List.{[], _∷_};
 ghost use Prim.Native.Nat.{_+_, _-_, _*_, _≤_, _<_};
 ghost use lib.ListN.{length};
 ghost use Rattle.candidates.specs.Candidates.{Readable};
 ghost use Rattle.rows.specs.Parts.{Apart, part, put, zeros};
-ghost use Rattle.lists.specs.Lists.{products};
-ghost use Rattle.labels.specs.Labels.{labelCount};
 ghost use Rattle.rows.specs.Rows.{Rows};
-ghost use Rattle.entries.specs.Carries.{Keeps, inWords, valueArea, OnlyArea, Kept, entryAlgebra};
-ghost use Rattle.making.specs.Making.{Next, Steps, Finished, entryAt, entriesAt};
-ghost use Rattle.unions.specs.Unions.{unitedAt};
+ghost use Rattle.entries.specs.Carries.{Keeps, inWords, valueArea, OnlyArea, Kept};
+ghost use Rattle.making.specs.Making.{Next, Steps, Finished};
+ghost use Rattle.unions.specs.Unions.{unitedAt, unitedWith, unitedAll};
 
 // The pairs at words ra and rb united with the value v, and put into the table that is being made at word `to`. The answer is the count then; p + 1
 // where there are more than p rows, p + 2 where the united pair does not fit.
@@ -66,8 +64,8 @@ pub fn unite_with_all(
     requires { ⌜ (2 ≤ w) × (w ≤ 4096) × (p ≤ 1024) × (length (now row) ≡ w) ⌝ }
     requires { ⌜ (ra + w ≤ to) × (b + p * w ≤ to) × (to + p * w ≤ length (now ws)) ⌝ }
     requires { ⌜ Readable (part ra w (now ws)) × Rows w p n (part b (p * w) (now ws)) × Apart right made (inWords carry p) (length (now vals)) ⌝ }
-    requires { ⌜ Next carry w p to m (map (entryAlgebra labelCount carry .united (entryAt w ra va (now ws))) (entriesAt carry w p b n (valueArea carry p right (now vals)) (now ws))) (now ws) (now index) (valueArea carry p made (now vals)) ⌝ }
-    ensures { λ r. ⌜ Steps carry w p to m (map (entryAlgebra labelCount carry .united (entryAt w ra va (now (ws .entry)))) (entriesAt carry w p b n (valueArea carry p right (now (vals .entry))) (now (ws .entry)))) r (now (ws .entry)) (now (index .entry)) (valueArea carry p made (now (vals .entry))) (now (ws .exit)) (now (index .exit)) (valueArea carry p made (now (vals .exit))) ⌝ }
+    requires { ⌜ Next carry w p to m (unitedWith carry w p ra va b right n (now vals) (now ws)) (now ws) (now index) (valueArea carry p made (now vals)) ⌝ }
+    ensures { λ r. ⌜ Steps carry w p to m (unitedWith carry w p ra va b right n (now (vals .entry)) (now (ws .entry))) r (now (ws .entry)) (now (index .entry)) (valueArea carry p made (now (vals .entry))) (now (ws .exit)) (now (index .exit)) (valueArea carry p made (now (vals .exit))) ⌝ }
     ensures { λ _. ⌜ OnlyArea carry p made (now (vals .entry)) (now (vals .exit)) ⌝ }
 {
     let k = entries::words_of(carry, p);
@@ -121,8 +119,8 @@ pub fn unite_all(
     requires { ⌜ (2 ≤ w) × (w ≤ 4096) × (p ≤ 1024) × (length (now row) ≡ w) ⌝ }
     requires { ⌜ (a + p * w ≤ to) × (b + p * w ≤ to) × (to + p * w ≤ length (now ws)) ⌝ }
     requires { ⌜ Rows w p na (part a (p * w) (now ws)) × Rows w p nb (part b (p * w) (now ws)) × Apart left made (inWords carry p) (length (now vals)) × Apart right made (inWords carry p) (length (now vals)) ⌝ }
-    requires { ⌜ Next carry w p to 0 (products (entryAlgebra labelCount carry .united) (entriesAt carry w p a na (valueArea carry p left (now vals)) (now ws)) (entriesAt carry w p b nb (valueArea carry p right (now vals)) (now ws))) (now ws) (now index) (valueArea carry p made (now vals)) ⌝ }
-    ensures { λ r. ⌜ Steps carry w p to 0 (products (entryAlgebra labelCount carry .united) (entriesAt carry w p a na (valueArea carry p left (now (vals .entry))) (now (ws .entry))) (entriesAt carry w p b nb (valueArea carry p right (now (vals .entry))) (now (ws .entry)))) r (now (ws .entry)) (now (index .entry)) (valueArea carry p made (now (vals .entry))) (now (ws .exit)) (now (index .exit)) (valueArea carry p made (now (vals .exit))) ⌝ }
+    requires { ⌜ Next carry w p to 0 (unitedAll carry w p a left na b right nb (now vals) (now ws)) (now ws) (now index) (valueArea carry p made (now vals)) ⌝ }
+    ensures { λ r. ⌜ Steps carry w p to 0 (unitedAll carry w p a left na b right nb (now (vals .entry)) (now (ws .entry))) r (now (ws .entry)) (now (index .entry)) (valueArea carry p made (now (vals .entry))) (now (ws .exit)) (now (index .exit)) (valueArea carry p made (now (vals .exit))) ⌝ }
     ensures { λ _. ⌜ OnlyArea carry p made (now (vals .entry)) (now (vals .exit)) ⌝ }
 {
     let k = entries::words_of(carry, p);
@@ -179,7 +177,7 @@ pub fn unite_tables(
     requires { ⌜ (a + p * w ≤ b) × (b + p * w ≤ to) × (to + p * w ≤ length (now ws)) ⌝ }
     requires { ⌜ Rows w p na (part a (p * w) (now ws)) × Rows w p nb (part b (p * w) (now ws)) × Apart left made (inWords carry p) (length (now vals)) × Apart right made (inWords carry p) (length (now vals)) ⌝ }
     requires { ⌜ (part to (p * w) (now ws) ≡ zeros (p * w)) × (p ≤ length (now index)) × Kept carry p 0 (valueArea carry p made (now vals)) ⌝ }
-    ensures { λ r. ⌜ Finished carry w p a (products (entryAlgebra labelCount carry .united) (entriesAt carry w p a na (valueArea carry p left (now (vals .entry))) (now (ws .entry))) (entriesAt carry w p b nb (valueArea carry p right (now (vals .entry))) (now (ws .entry)))) r (now (ws .entry)) (put b (p * w) (now (ws .entry)) (zeros (p * w))) (now (ws .exit)) (valueArea carry p made (now (vals .exit))) ⌝ }
+    ensures { λ r. ⌜ Finished carry w p a (unitedAll carry w p a left na b right nb (now (vals .entry)) (now (ws .entry))) r (now (ws .entry)) (put b (p * w) (now (ws .entry)) (zeros (p * w))) (now (ws .exit)) (valueArea carry p made (now (vals .exit))) ⌝ }
     ensures { λ _. ⌜ OnlyArea carry p made (now (vals .entry)) (now (vals .exit)) ⌝ }
 {
     let r = unite_all(

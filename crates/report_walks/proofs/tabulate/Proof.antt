@@ -93,7 +93,7 @@ report-newest-requires c κs =
     let u = walked-by e in
     let s = start (origin u) in
     let R = through e in
-    ((wide-two (s .args .kind) (s .args .w) (s .pre .0 .0), s .pre .0 .1, s .pre .0 .3, R .5 (omega arith)), (s .args .d, R .0, back (origin u), u .walk .last .1 .1 .1 .1 .1 .0, R .2, R .3))
+    ((wide-two (s .args .kind) (s .args .w) (s .pre .0 .0), s .pre .0 .1, s .pre .0 .3, R .5 (omega arith)), (s .args .d, u .walk .last .1 .1 .1 .1 .1 .0, (R .0, back (origin u), R .2, R .3)))
 
 clear-tables-requires-2 : tie.Need-clear-tables-requires-2
 clear-tables-requires-2 c κs =

@@ -24,7 +24,7 @@ start c = c .before .before .before .before
 -- where the newest table stands
 module _ (c : tie.After-count-below) where
   there : (start c .args .t - 1) * (start c .args .p * start c .args .w) + start c .args .p * start c .args .w ≤ length (start c .args .ws .now)
-  there = let s = start c in newest-inside (s .pre .1 .4) (s .args .t) (s .pre .1 .5) (c .count-below .result) (c .count-below .ensures) (s .pre .0 .3)
+  there = let s = start c in newest-inside (s .pre .1 .2 .2) (s .args .t) (s .pre .1 .2 .3) (c .count-below .result) (c .count-below .ensures) (s .pre .0 .3)
 
 -- how many words its report takes, whatever stack it is of
 words : (r : tie.After-report-words) (d : ℕ) (us : List (List Entry)) (beyond vals : List ℕ) → Stands Nothing d (start (r .before) .args .w) (start (r .before) .args .p) us beyond (start (r .before) .args .ws .now) vals (start (r .before) .args .counts .now)
@@ -36,7 +36,7 @@ words r d us beyond vals h e =
 
 count-below-requires : tie.Need-count-below-requires
 count-below-requires c κs =
-    let s = c .before .before .before in (omega arith, counts-reach (s .pre .1 .4) (s .args .t) (s .pre .1 .5))
+    let s = c .before .before .before in (omega arith, counts-reach (s .pre .1 .2 .2) (s .args .t) (s .pre .1 .2 .3))
 
 sub-a : tie.Need-sub-a
 sub-a c = search needs
@@ -49,7 +49,7 @@ mul-a-2 c = omega (arith, there c)
 
 report-words-requires : tie.Need-report-words-requires
 report-words-requires c κs =
-    let s = start c in ((s .pre .0 .0, s .pre .0 .1, s .pre .0 .2), (there c, newest-rows (s .pre .1 .4) (s .args .t) (s .pre .1 .5) (c .count-below .result) (c .count-below .ensures) (s .pre .0 .3)))
+    let s = start c in ((s .pre .0 .0, s .pre .0 .1, s .pre .0 .2), (there c, newest-rows (s .pre .1 .2 .2) (s .args .t) (s .pre .1 .2 .3) (c .count-below .result) (c .count-below .ensures) (s .pre .0 .3)))
 
 returns : tie.Need-returns
 returns c =
@@ -62,7 +62,7 @@ write-report-requires c κs =
     let r = c .before .before in
     let i = r .before in
     let s = start i in
-    ((s .pre .0 .0, s .pre .0 .1, s .pre .0 .2), ((there i, newest-rows (s .pre .1 .4) (s .args .t) (s .pre .1 .5) (i .count-below .result) (i .count-below .ensures) (s .pre .0 .3)), omega (arith, r .report-words .ensures, c .before .if1 .left)))
+    ((s .pre .0 .0, s .pre .0 .1, s .pre .0 .2), ((there i, newest-rows (s .pre .1 .2 .2) (s .args .t) (s .pre .1 .2 .3) (i .count-below .result) (i .count-below .ensures) (s .pre .0 .3)), omega (arith, r .report-words .ensures, c .before .if1 .left)))
 
 same-length : tie.Need-same-length
 same-length c = search needs
