@@ -16,6 +16,12 @@ pub kept-zeros : (carry : Carry) (p : ℕ) (vals : List ℕ) → vals ≡ zeros 
 kept-zeros carry p vals e =
     rw (in-none carry) (e ∙ ap zeros (let z : inWords carry p ≡ inWords carry p - 0 = omega arith in z), ap length e ∙ zeros-long (inWords carry p))
 
+-- an area came back as ys
+pub record Back (carry : Carry) (p o : ℕ) (vals vals' ys : List ℕ) : Type 0 where
+  pub long : length vals' ≡ length vals
+  pub there : valueArea carry p o vals' ≡ ys
+  pub only : OnlyArea carry p o vals vals'
+
 -- how long the range of an area is
 pub area-span : (carry : Carry) (p o many : ℕ) → many ≡ inWords carry p → o + many - o ≡ inWords carry p
 area-span carry p o many is = span o many ∙ is
@@ -59,11 +65,12 @@ module _ (carry : Carry) (p o : ℕ) where
         as-many : length ys ≡ k
         as-many = e ∙ ap (λ (n : ℕ). length (part o n vals)) (area-span carry p o many is) ∙ part-long o k vals (omega (arith, long))
 
-        pub back-long : length (put o (o + many - o) vals ys) ≡ length vals₀
-        back-long = ap length same ∙ put-long o k vals ys (omega (arith, long)) as-many ∙ long
+        there : part o k after ≡ ys
+        there = ap (part o k) same ∙ part-put o k vals ys (omega (arith, long)) as-many
 
-        pub back-there : valueArea carry p o (put o (o + many - o) vals ys) ≡ ys
-        back-there = ap (part o k) same ∙ part-put o k vals ys (omega (arith, long)) as-many
-
-        pub back-only : OnlyArea carry p o vals₀ (put o (o + many - o) vals ys)
-        back-only = only-then after long (same ∙ ap (put o k vals) (sym back-there))
+        pub lent-back : Back carry p o vals₀ (put o (o + many - o) vals ys) ys
+        lent-back = record {
+          long = ap length same ∙ put-long o k vals ys (omega (arith, long)) as-many ∙ long;
+          there = there;
+          only = only-then after long (same ∙ ap (put o k vals) (sym there));
+        }

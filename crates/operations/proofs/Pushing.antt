@@ -13,8 +13,8 @@ use Rattle.values.specs.Values.{valued}
 use Rattle.rows.specs.Parts.{part, put}
 use Rattle.rows.specs.Rows.{tableOf}
 use Rattle.entries.specs.declared.Carry.{Carry}
-use Rattle.entries.specs.Carries.{Entry, inWords, valueArea, OnlyArea}
-use Rattle.entries.proofs.ValueAreas.{only-start, back-long, back-there, back-only}
+use Rattle.entries.specs.Carries.{Entry, inWords}
+use Rattle.entries.proofs.ValueAreas.{Back, only-start, lent-back}
 use Rattle.making.specs.Making.{tableOfAll, Finished}
 use Rattle.leaves.specs.declared.Atom.{Atom}
 use Rattle.leaves.specs.declared.Tables.{Tables}
@@ -84,17 +84,10 @@ module _ (carry : Carry) (d p t : ℕ) (vals : List ℕ) (free : t + 1 < d) (o k
   abbrev made : List ℕ
   made = put o (o + k - o) vals ys
 
-  within : o + inWords carry p ≤ length vals
-  within = values-apart roomy t free (valuesFrom carry p t) o refl eo .within
-
-  pub made-long : length (put o (o + k - o) vals ys) ≡ length vals
-  made-long = back-long carry p o vals vals (only-start carry p o vals) within refl k ek ys long
-
-  made-there : ys ≡ valueArea carry p (valuesFrom carry p (d - 1)) made
-  made-there = sym (back-there carry p o vals vals (only-start carry p o vals) within refl k ek ys long) ∙ ap (λ (j : ℕ). valueArea carry p j made) eo
-
-  made-only : OnlyArea carry p (valuesFrom carry p (d - 1)) vals made
-  made-only = subst (λ (j : ℕ). OnlyArea carry p j vals made) eo (back-only carry p o vals vals (only-start carry p o vals) within refl k ek ys long)
+  pub made-back : Back carry p (valuesFrom carry p (d - 1)) vals (put o (o + k - o) vals ys) ys
+  made-back =
+      let within = values-apart roomy t free (valuesFrom carry p t) o refl eo .within in
+      subst (λ (j : ℕ). Back carry p j vals made ys) eo (lent-back carry p o vals vals (only-start carry p o vals) within refl k ek ys long)
 
 module _ {carry : Carry} {d w p t n m r : ℕ} {ws ws' vals vals' : List ℕ} {cands : List Entry} (wide : 2 ≤ w) (free : t + 1 < d)
     (o k : ℕ) (eo : o ≡ valuesFrom carry p (d - 1)) (ek : k ≡ inWords carry p) (ys : List ℕ) (long : length ys ≡ length (part o (o + k - o) vals))
@@ -105,10 +98,10 @@ module _ {carry : Carry} {d w p t n m r : ℕ} {ws ws' vals vals' : List ℕ} {c
       let l = length-map ts pairsOf in
       let here : t * (p * w) ≡ length (map pairsOf ts) * (p * w) = ap (λ (k : ℕ). k * (p * w)) (sym (l ∙ h .tables)) in
       let R = h .holds .roomy in
-      let M : Moved carry d p t r vals (put o (o + k - o) vals ys) vals' =
-      record { long = made-long carry d p t vals free o k eo ek ys long R; only = made-only carry d p t vals free o k eo ek ys long R; moved = moved } in
+      let B = made-back carry d p t vals free o k eo ek ys long R in
+      let M : Moved carry d p t r vals (put o (o + k - o) vals ys) vals' = record { long = B .long; only = B .only; moved = moved } in
       acted ts (subst (λ (j : ℕ). Moved carry d p j r vals (put o (o + k - o) vals ys) vals') (sym (h .tables)) M) wide
-      (subst (Finished carry w p (t * (p * w)) cands r ws ws ws') (made-there carry d p t vals free o k eo ek ys long R) f) beyond filled ordered
+      (subst (Finished carry w p (t * (p * w)) cands r ws ws ws') (sym (B .there)) f) beyond filled ordered
       (h .holds .sound) (omega (arith, h .tables)) (h .holds .values) R
       (λ s. ap₂ (λ (k : ℕ) (v : List ℕ). put k (p * w) v (tableOf w p (pairsOf (tableOfAll carry cands)))) here (h .holds .words)
       ∙ areas.pushed w p d beyond (map pairsOf ts) (sound-pairs w p ts (h .holds .sound)) (omega (arith, l, h .tables)) (pairsOf (tableOfAll carry cands)))

@@ -12,7 +12,7 @@ use Rattle.batches.specs.Batches.{wordsPair}
 use Rattle.rows.proofs.Tables.{row-within}
 use Rattle.entries.specs.Carries.{Keeps, Entry, inWords, valuesIn, Beside, valueArea, OnlyArea}
 use Rattle.entries.proofs.Keeping.{in-most}
-use Rattle.entries.proofs.ValueAreas.{area-span, area-beside, only-start, lent-low, back-long, back-there, back-only}
+use Rattle.entries.proofs.ValueAreas.{Back, area-span, area-beside, only-start, lent-low, lent-back}
 use Rattle.making.specs.Making.{Making, Puts, entriesAt}
 use Rattle.making.proofs.Held.{readable-row, none-left}
 use Rattle.making.proofs.Stepping.{same-below}
@@ -126,24 +126,14 @@ module _ (u : tie.After-map-entry Inv-loop μ-loop) where
   abbrev after : List ℕ
   after = let s = start turn in put (s .args .made) (s .args .made + many turn - s .args .made) (vals turn) new
 
-  after-long : length after ≡ length (words (start turn))
-  after-long =
+  back : Back (start turn .args .carry) (start turn .args .p) (start turn .args .made) (words (start turn)) after new
+  back =
       let s = start turn in
-      back-long (s .args .carry) (s .args .p) (s .args .made) (words s) (vals turn) (turn .before .loop .inv .5) (s .pre .1 .1 .0 .1 .within) (turn .before .loop .inv .4) (many turn) (is-many turn) new (u .map-entry .kept .1 .1 .1 .0)
-
-  there : made (start turn) after ≡ new
-  there =
-      let s = start turn in
-      back-there (s .args .carry) (s .args .p) (s .args .made) (words s) (vals turn) (turn .before .loop .inv .5) (s .pre .1 .1 .0 .1 .within) (turn .before .loop .inv .4) (many turn) (is-many turn) new (u .map-entry .kept .1 .1 .1 .0)
-
-  only : OnlyArea (start turn .args .carry) (start turn .args .p) (start turn .args .made) (words (start turn)) after
-  only =
-      let s = start turn in
-      back-only (s .args .carry) (s .args .p) (s .args .made) (words s) (vals turn) (turn .before .loop .inv .5) (s .pre .1 .1 .0 .1 .within) (turn .before .loop .inv .4) (many turn) (is-many turn) new (u .map-entry .kept .1 .1 .1 .0)
+      lent-back (s .args .carry) (s .args .p) (s .args .made) (words s) (vals turn) (turn .before .loop .inv .5) (s .pre .1 .1 .0 .1 .within) (turn .before .loop .inv .4) (many turn) (is-many turn) new (u .map-entry .kept .1 .1 .1 .0)
 
   -- what the candidate leaves
   done : Puts (start turn .args .carry) (start turn .args .w) (start turn .args .p) (start turn .args .to) (turn .before .loop .r) (wordedAt (start turn .args .w) (start turn .args .a + turn .before .loop .j * start turn .args .w) (u .before .before .before .before .before .value-at .result) (start turn .args .code .now) (turn .before .loop .ws) ∷ []) (u .map-entry .result) (turn .before .loop .ws) (turn .before .loop .index) (made (start turn) (vals turn)) (u .map-entry .last .0) (u .map-entry .last .1 .1 .0) (made (start turn) after)
-  done = rw there (rw (area-span (start turn .args .carry) (start turn .args .p) (start turn .args .made) (many turn) (is-many turn)) at (u .map-entry .ensures))
+  done = rw (back .there) (rw (area-span (start turn .args .carry) (start turn .args .p) (start turn .args .made) (many turn) (is-many turn)) at (u .map-entry .ensures))
 
 words-of-requires : tie.Need-words-of-requires Inv-loop μ-loop
 words-of-requires c κs = let s = c .before .before .before .before .before in omega (arith, in-most (s .args .carry) (s .args .p), s .pre .0 .2)
@@ -178,7 +168,7 @@ value-at-requires : tie.Need-value-at-requires Inv-loop μ-loop
 value-at-requires c κs =
     let e = c .before .before in
     let s = start e in
-    (subst (Beside (s .args .carry) (s .args .n)) (sym (operand e)) (beside s), e .loop-test .taken)
+    (subst (Beside (s .args .carry) (s .args .n)) (sym (operand e)) (beside s), omega (arith, e .loop-test .taken))
 
 add-map-entry : tie.Need-add-map-entry Inv-loop μ-loop
 add-map-entry c = let e = c .before .before .before .before .before .before in omega (arith, within e (start e .args .made) (omega arith))
@@ -233,8 +223,8 @@ loop-again c =
       u .map-entry .kept .1 .0 ∙ q .1,
       u .map-entry .kept .0 ∙ q .2,
       u .map-entry .kept .1 .1 .0 ∙ q .3,
-      after-long u,
-      only u,
+      back u .long,
+      back u .only,
       λ cands rest v₀ h. done u cands (map (worded (s .args .code .now)) (drop (j + 1) (those s)) ++ rest) v₀ (next e (v .value-at .result) (value v) cands rest v₀ h),
     )
 

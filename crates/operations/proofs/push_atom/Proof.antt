@@ -15,7 +15,7 @@ use Rattle.operands.specs.Operands.{Loaded, Acts}
 use Rattle.operations.specs.Operations.{pushed}
 use Rattle.operands.proofs.Loads.{values-apart, none-made, inside, scratch-zero, free-zero}
 use Rattle.leaves.proofs.Writing.{wide-two}
-use Rattle.operations.proofs.Pushing.{made-long, pushed-acted, leaf-filled, leaf-ordered}
+use Rattle.operations.proofs.Pushing.{made-back, pushed-acted, leaf-filled, leaf-ordered}
 use borrow.Author.Needs.{needs}
 use native.Mathlib.Omega.{arith}
 use borrow.Author.Needs.{needs}
@@ -78,7 +78,7 @@ module _ (u : tie.After-atom-table) where
   after = put (from v) (from v + many v - from v) (s .args .vals .now) new
 
   after-long : length after ≡ length (s .args .vals .now)
-  after-long = made-long (s .args .carry) (s .args .d) (s .args .p) (s .args .t) (s .args .vals .now) (deep s) (from v) (many v) (v .before .values-from .ensures) (v .words-of .ensures) new (u .atom-table .kept .1 .1 .1 .0) (held s .holds .roomy)
+  after-long = made-back (s .args .carry) (s .args .d) (s .args .p) (s .args .t) (s .args .vals .now) (deep s) (from v) (many v) (v .before .values-from .ensures) (v .words-of .ensures) new (u .atom-table .kept .1 .1 .1 .0) (held s .holds .roomy) .long
 
   done : {vals' : List ℕ} → (u .atom-table .result ≤ s .args .p → vals' ≡ placed (s .args .carry) (s .args .d) (s .args .p) (s .args .t) (u .atom-table .result) after)
       → (n m : ℕ) → Acts (s .args .carry) (s .args .d) (s .args .w) (s .args .p) (s .args .t) n m (pushed (tableOfAll (s .args .carry) (leafEntries (s .args .tables) (s .args .atom) (s .args .g)))) (u .atom-table .result) (s .args .ws .now) (s .args .vals .now) (u .atom-table .last .0) vals'

@@ -14,7 +14,7 @@ use Rattle.workspace.specs.Workspace.{valuesFrom, placed}
 use Rattle.operands.specs.Operands.{Loaded, Acts}
 use Rattle.operations.specs.Operations.{pushed}
 use Rattle.operands.proofs.Loads.{values-apart, none-made, inside, scratch-zero, free-zero}
-use Rattle.operations.proofs.Pushing.{made-long, pushed-acted, rule-filled, rule-ordered}
+use Rattle.operations.proofs.Pushing.{made-back, pushed-acted, rule-filled, rule-ordered}
 use borrow.Author.Needs.{needs}
 use native.Mathlib.Omega.{arith}
 use borrow.Author.Needs.{needs}
@@ -77,7 +77,7 @@ module _ (u : tie.After-rule-table) where
   after = put (from v) (from v + many v - from v) (s .args .vals .now) new
 
   after-long : length after ≡ length (s .args .vals .now)
-  after-long = made-long (s .args .carry) (s .args .d) (s .args .p) (s .args .t) (s .args .vals .now) (deep s) (from v) (many v) (v .before .values-from .ensures) (v .words-of .ensures) new (u .rule-table .kept .1 .1 .1 .0) (held s .holds .roomy)
+  after-long = made-back (s .args .carry) (s .args .d) (s .args .p) (s .args .t) (s .args .vals .now) (deep s) (from v) (many v) (v .before .values-from .ensures) (v .words-of .ensures) new (u .rule-table .kept .1 .1 .1 .0) (held s .holds .roomy) .long
 
   done : {vals' : List ℕ} → (u .rule-table .result ≤ s .args .p → vals' ≡ placed (s .args .carry) (s .args .d) (s .args .p) (s .args .t) (u .rule-table .result) after)
       → (n m : ℕ) → Acts (s .args .carry) (s .args .d) (s .args .w) (s .args .p) (s .args .t) n m (pushed (tableOfAll (s .args .carry) (tableAlgebra (s .args .tables) (s .args .carry) .unmet (s .args .g) ∷ []))) (u .rule-table .result) (s .args .ws .now) (s .args .vals .now) (u .rule-table .last .0) vals'

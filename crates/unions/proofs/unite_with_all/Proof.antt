@@ -11,7 +11,7 @@ use Rattle.values.specs.declared.Value.{Value}
 use Rattle.values.specs.Values.{noValue}
 use Rattle.entries.specs.Carries.{Keeps, Entry, entryAlgebra, inWords, valuesIn, Beside, valueArea, OnlyArea, carriedBy}
 use Rattle.entries.proofs.Keeping.{in-most}
-use Rattle.entries.proofs.ValueAreas.{area-span, area-beside, only-start, lent-low, back-long, back-there, back-only}
+use Rattle.entries.proofs.ValueAreas.{Back, area-span, area-beside, only-start, lent-low, lent-back}
 use Rattle.making.specs.Making.{Making, Steps, entryAt, entriesAt}
 use Rattle.unions.specs.Unions.{unitedAt}
 use Rattle.making.proofs.Held.{readable-row, none-left}
@@ -119,24 +119,14 @@ module _ (u : tie.After-unite-entry Inv-loop μ-loop) where
   abbrev after : List ℕ
   after = let s = start turn in put (s .args .made) (s .args .made + many turn - s .args .made) (vals turn) new
 
-  after-long : length after ≡ length (words (start turn))
-  after-long =
+  back : Back (start turn .args .carry) (start turn .args .p) (start turn .args .made) (words (start turn)) after new
+  back =
       let s = start turn in
-      back-long (s .args .carry) (s .args .p) (s .args .made) (words s) (vals turn) (turn .before .loop .inv .5) (s .pre .1 .1 .0 .2 .within) (turn .before .loop .inv .4) (many turn) (is-many turn) new (u .unite-entry .kept .1 .1 .1 .0)
-
-  there : made (start turn) after ≡ new
-  there =
-      let s = start turn in
-      back-there (s .args .carry) (s .args .p) (s .args .made) (words s) (vals turn) (turn .before .loop .inv .5) (s .pre .1 .1 .0 .2 .within) (turn .before .loop .inv .4) (many turn) (is-many turn) new (u .unite-entry .kept .1 .1 .1 .0)
-
-  only : OnlyArea (start turn .args .carry) (start turn .args .p) (start turn .args .made) (words (start turn)) after
-  only =
-      let s = start turn in
-      back-only (s .args .carry) (s .args .p) (s .args .made) (words s) (vals turn) (turn .before .loop .inv .5) (s .pre .1 .1 .0 .2 .within) (turn .before .loop .inv .4) (many turn) (is-many turn) new (u .unite-entry .kept .1 .1 .1 .0)
+      lent-back (s .args .carry) (s .args .p) (s .args .made) (words s) (vals turn) (turn .before .loop .inv .5) (s .pre .1 .1 .0 .2 .within) (turn .before .loop .inv .4) (many turn) (is-many turn) new (u .unite-entry .kept .1 .1 .1 .0)
 
   -- what the candidate leaves
   done : Steps (start turn .args .carry) (start turn .args .w) (start turn .args .p) (start turn .args .to) (turn .before .loop .r) (unitedAt (start turn .args .w) (start turn .args .ra) (start turn .args .b + turn .before .loop .j * start turn .args .w) (u .before .before .before .before .before .together .result) (turn .before .loop .ws) ∷ []) (u .unite-entry .result) (turn .before .loop .ws) (turn .before .loop .index) (made (start turn) (vals turn)) (u .unite-entry .last .0) (u .unite-entry .last .1 .1 .0) (made (start turn) after)
-  done = rw there (rw (area-span (start turn .args .carry) (start turn .args .p) (start turn .args .made) (many turn) (is-many turn)) at (u .unite-entry .ensures))
+  done = rw (back .there) (rw (area-span (start turn .args .carry) (start turn .args .p) (start turn .args .made) (many turn) (is-many turn)) at (u .unite-entry .ensures))
 
 words-of-requires : tie.Need-words-of-requires Inv-loop μ-loop
 words-of-requires c κs = let s = c .before .before .before .before in omega (arith, in-most (s .args .carry) (s .args .p), s .pre .0 .2)
@@ -231,7 +221,7 @@ same-length-3 c =
 same-length-4 : tie.Need-same-length-4 Inv-loop μ-loop
 same-length-4 c =
     let u = c .before .before .before .before .before .before .before .before .before in
-    after-long u
+    back u .long
 
 returns : tie.Need-returns Inv-loop μ-loop
 returns c =
@@ -243,7 +233,7 @@ returns c =
       λ cands rest ws₀ h. stepped-wide (c .if1 .taken)
           (λ a. (fit-next (s .args .carry) (s .args .w) (s .args .p) (s .args .b) (s .args .n) (others s) (s .args .ws .now) (below s) (s .pre .1 .1 .0 .1) (beside s) (s .args .ra) (s .args .va) j (e .loop-test .taken) (t .together .result) (value t) (e .before .loop .ws) (same e (s .args .ra) (s .args .w) (s .pre .1 .0 .0)) (same e (s .args .b + j * s .args .w) (s .args .w) (row-below e)) a, tt))
           (done u cands (map (unite s) (drop (j + 1) (those s)) ++ rest) ws₀ (next e (t .together .result) (value t) cands rest ws₀ h)),
-      only u,
+      back u .only,
     )
 
 add-j : tie.Need-add-j Inv-loop μ-loop
@@ -267,8 +257,8 @@ loop-again c =
       u .unite-entry .kept .1 .0 ∙ q .1,
       u .unite-entry .kept .0 ∙ q .2,
       u .unite-entry .kept .1 .1 .0 ∙ q .3,
-      after-long u,
-      only u,
+      back u .long,
+      back u .only,
       λ cands rest v₀ h. done u cands (map (unite s) (drop (j + 1) (those s)) ++ rest) v₀ (next e (t .together .result) (value t) cands rest v₀ h) .made (omega (arith, c .if1 .left)),
     )
 
