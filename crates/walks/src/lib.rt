@@ -25,8 +25,8 @@ pub enum Reached {
     Through(usize),
 }
 
-// All commands that start before `stop`, in d areas, on no tables at first. The expression passed the checks, so every offset that comes is a command's. ops is
-// lent for words of commands.
+// All commands that start before `stop`, in d areas, on no tables at first. The expression passed the checks, so every offset that comes is a
+// command's. ops is lent for words of commands.
 fn walk_by(
     s: &[u8],
     stop: usize,
