@@ -12,21 +12,22 @@ use Rattle.tables.specs.Definitions.{subsets, pairs, flat}
 use Rattle.values.specs.Values.{valued}
 use Rattle.rows.specs.Parts.{part, put}
 use Rattle.rows.specs.Rows.{tableOf}
+use Rattle.rows.proofs.Tables.{row-within}
 use Rattle.entries.specs.declared.Carry.{Carry}
-use Rattle.entries.specs.Carries.{Entry, inWords}
-use Rattle.entries.proofs.ValueAreas.{Back, only-start, lent-back}
+use Rattle.entries.specs.Carries.{Entry, inWords, Kept}
+use Rattle.entries.proofs.ValueAreas.{Back, area-span, only-start, lent-back}
 use Rattle.making.specs.Making.{tableOfAll, Finished}
 use Rattle.leaves.specs.declared.Atom.{Atom}
 use Rattle.leaves.specs.declared.Tables.{Tables}
 use Rattle.leaves.specs.declared.Tables.the-variants.{Plain, Pairs}
 use Rattle.leaves.specs.Leaves.{algebraOf, tableAlgebra, presentEntry, absentEntry, leafEntries}
-use Rattle.workspace.specs.Workspace.{pairsOf, valuesFrom, Roomy, placed, Acted}
+use Rattle.workspace.specs.Workspace.{pairsOf, valuesFrom, placed, Acted}
 use Rattle.workspace.proofs.Values.{Moved}
 use Rattle.workspace.proofs.Areas as areas
 use Rattle.workspace.proofs.Acting.{sound-pairs, acted}
 use Rattle.operands.specs.Operands.{Loaded}
 use Rattle.operations.specs.Operations.{pushed}
-use Rattle.operands.proofs.Loads.{values-apart}
+use Rattle.operands.proofs.Loads.{values-apart, none-made, inside}
 
 -- an entry whose pair has a triple, and rising subsets
 abbrev Filled : Entry → Type 0
@@ -78,16 +79,33 @@ module _ (carry : Carry) where
 
 -- ---- the table
 
--- the values come back as ys from the last area, of k words at word o, that was lent for them
-module _ (carry : Carry) (d p t : ℕ) (vals : List ℕ) (free : t + 1 < d) (o k : ℕ) (eo : o ≡ valuesFrom carry p (d - 1)) (ek : k ≡ inWords carry p) (ys : List ℕ)
-    (long : length ys ≡ length (part o (o + k - o) vals)) (roomy : Roomy carry d p vals) where
-  abbrev made : List ℕ
-  made = put o (o + k - o) vals ys
+-- a free area takes it, behind which it is made; its values are made in the last area, of k words at word o
+module _ {carry : Carry} {d w p t n m : ℕ} {ts : List (List Entry)} {beyond ws vals : List ℕ} (h : Loaded carry d w p t n m ts beyond ws vals) (free : t + 1 < d) where
+  pub one-fits : p * w ≤ length ws
+  one-fits = omega (arith, inside h 0 (omega (arith, free)))
 
-  pub made-back : Back carry p (valuesFrom carry p (d - 1)) vals (put o (o + k - o) vals ys) ys
-  made-back =
-      let within = values-apart roomy t free (valuesFrom carry p t) o refl eo .within in
-      subst (λ (j : ℕ). Back carry p j vals made ys) eo (lent-back carry p o vals vals (only-start carry p o vals) within refl k ek ys long)
+  pub new-fits : t * (p * w) + p * w ≤ length ws
+  new-fits = inside h t (omega (arith, free))
+
+  pub scratch-fits : (d - 1) * (p * w) + p * w ≤ length ws
+  scratch-fits = inside h (d - 1) (omega (arith, free))
+
+  pub new-below : t * (p * w) + p * w ≤ (d - 1) * (p * w)
+  new-below = row-within t (d - 1) (p * w) (omega (arith, free))
+
+  module _ (o k : ℕ) (eo : o ≡ valuesFrom carry p (d - 1)) (ek : k ≡ inWords carry p) where
+    fits : o + inWords carry p ≤ length vals
+    fits = values-apart (h .holds .roomy) t free (valuesFrom carry p t) o refl eo .within
+
+    pub values-fit : o + k ≤ length vals
+    values-fit = omega (arith, ek, fits)
+
+    pub no-values : Kept carry p 0 (part o (o + k - o) vals)
+    no-values = rw (area-span carry p o k ek) (none-made (h .holds .roomy) o eo)
+
+    -- what comes back from there
+    pub made-back : (ys : List ℕ) → length ys ≡ length (part o (o + k - o) vals) → Back carry p (valuesFrom carry p (d - 1)) vals (put o (o + k - o) vals ys) ys
+    made-back ys long = subst (λ (j : ℕ). Back carry p j vals (put o (o + k - o) vals ys) ys) eo (lent-back carry p o vals vals (only-start carry p o vals) fits refl k ek ys long)
 
 module _ {carry : Carry} {d w p t n m r : ℕ} {ws ws' vals vals' : List ℕ} {cands : List Entry} (wide : 2 ≤ w) (free : t + 1 < d)
     (o k : ℕ) (eo : o ≡ valuesFrom carry p (d - 1)) (ek : k ≡ inWords carry p) (ys : List ℕ) (long : length ys ≡ length (part o (o + k - o) vals))
@@ -97,11 +115,10 @@ module _ {carry : Carry} {d w p t n m r : ℕ} {ws ws' vals vals' : List ℕ} {c
   pushed-acted ts beyond h =
       let l = length-map ts pairsOf in
       let here : t * (p * w) ≡ length (map pairsOf ts) * (p * w) = ap (λ (k : ℕ). k * (p * w)) (sym (l ∙ h .tables)) in
-      let R = h .holds .roomy in
-      let B = made-back carry d p t vals free o k eo ek ys long R in
+      let B = made-back h free o k eo ek ys long in
       let M : Moved carry d p t r vals (put o (o + k - o) vals ys) vals' = record { long = B .long; only = B .only; moved = moved } in
       acted ts (subst (λ (j : ℕ). Moved carry d p j r vals (put o (o + k - o) vals ys) vals') (sym (h .tables)) M) wide
       (subst (Finished carry w p (t * (p * w)) cands r ws ws ws') (sym (B .there)) f) beyond filled ordered
-      (h .holds .sound) (omega (arith, h .tables)) (h .holds .values) R
+      (h .holds .sound) (omega (arith, h .tables)) (h .holds .values) (h .holds .roomy)
       (λ s. ap₂ (λ (k : ℕ) (v : List ℕ). put k (p * w) v (tableOf w p (pairsOf (tableOfAll carry cands)))) here (h .holds .words)
       ∙ areas.pushed w p d beyond (map pairsOf ts) (sound-pairs w p ts (h .holds .sound)) (omega (arith, l, h .tables)) (pairsOf (tableOfAll carry cands)))

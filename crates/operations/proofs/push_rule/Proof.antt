@@ -1,20 +1,17 @@
 -- `operations::push_rule`: the rule's table is made in the free area behind the tables, and its values moved to their place.
-use mathlib.Core.Path.{_≡_, refl}
+use mathlib.Core.Path.{_≡_}
 use mathlib.Core.List.{List, [], _∷_}
-use Prim.Native.Nat.{ℕ, _+_, _-_, _*_, _≤_, _<_}
+use Prim.Native.Nat.{ℕ, _+_, _-_, _≤_}
 use lib.ListN.{length}
-use Rattle.rows.specs.Parts.{part, put}
-use Rattle.rows.proofs.Tables.{row-within}
-use Rattle.entries.specs.Carries.{Kept}
+use Rattle.rows.specs.Parts.{put}
 use Rattle.entries.proofs.Keeping.{in-most}
-use Rattle.entries.proofs.ValueAreas.{area-span}
 use Rattle.making.specs.Making.{tableOfAll}
 use Rattle.leaves.specs.Leaves.{tableAlgebra}
-use Rattle.workspace.specs.Workspace.{valuesFrom, placed}
+use Rattle.workspace.specs.Workspace.{placed}
 use Rattle.operands.specs.Operands.{Loaded, Acts}
 use Rattle.operations.specs.Operations.{pushed}
-use Rattle.operands.proofs.Loads.{values-apart, none-made, inside, scratch-zero, free-zero}
-use Rattle.operations.proofs.Pushing.{made-back, pushed-acted, rule-filled, rule-ordered}
+use Rattle.operands.proofs.Loads.{scratch-zero, free-zero}
+use Rattle.operations.proofs.Pushing.{one-fits, new-fits, scratch-fits, new-below, values-fit, no-values, made-back, pushed-acted, rule-filled, rule-ordered}
 use borrow.Author.Needs.{needs}
 use native.Mathlib.Omega.{arith}
 use borrow.Author.Needs.{needs}
@@ -23,25 +20,6 @@ use Rattle.operations.proofs.push_rule.Tie as tie
 
 abbrev held : (s : tie.Start) → Loaded (s .args .carry) (s .args .d) (s .args .w) (s .args .p) (s .args .t) (s .pre .1 .1 .0) (s .pre .1 .1 .1) (s .pre .1 .1 .2 .0) (s .pre .1 .1 .2 .1) (s .args .ws .now) (s .args .vals .now)
 held s = s .pre .1 .1 .2 .2
-
-module _ (s : tie.Start) where
-  abbrev k : ℕ
-  k = s .args .p * s .args .w
-
-  deep : s .args .t + 1 < s .args .d
-  deep = s .pre .1 .0
-
-  one : k ≤ length (s .args .ws .now)
-  one = omega (arith, inside (held s) 0 (omega (arith, deep)))
-
-  there : s .args .t * k + k ≤ length (s .args .ws .now)
-  there = inside (held s) (s .args .t) (omega (arith, deep))
-
-  last : (s .args .d - 1) * k + k ≤ length (s .args .ws .now)
-  last = inside (held s) (s .args .d - 1) (omega (arith, deep))
-
-  apart : s .args .t * k + k ≤ (s .args .d - 1) * k
-  apart = row-within (s .args .t) (s .args .d - 1) k (omega (arith, deep))
 
 abbrev start : tie.After-words-of → tie.Start
 start v = v .before .before .before .before .before .before
@@ -55,12 +33,7 @@ module _ (v : tie.After-words-of) where
   many = v .words-of .result
 
   within : from + many ≤ length (start v .args .vals .now)
-  within =
-      let s = start v in
-      omega (arith, v .words-of .ensures, values-apart (held s .holds .roomy) (s .args .t) (deep s) (valuesFrom (s .args .carry) (s .args .p) (s .args .t)) from refl (v .before .values-from .ensures) .within)
-
-  none : Kept (start v .args .carry) (start v .args .p) 0 (part from (from + many - from) (start v .args .vals .now))
-  none = let s = start v in rw (area-span (s .args .carry) (s .args .p) from many (v .words-of .ensures)) (none-made (held s .holds .roomy) from (v .before .values-from .ensures))
+  within = values-fit (held (start v)) (start v .pre .1 .0) from many (v .before .values-from .ensures) (v .words-of .ensures)
 
 -- what comes back from there
 module _ (u : tie.After-rule-table) where
@@ -77,14 +50,14 @@ module _ (u : tie.After-rule-table) where
   after = put (from v) (from v + many v - from v) (s .args .vals .now) new
 
   after-long : length after ≡ length (s .args .vals .now)
-  after-long = made-back (s .args .carry) (s .args .d) (s .args .p) (s .args .t) (s .args .vals .now) (deep s) (from v) (many v) (v .before .values-from .ensures) (v .words-of .ensures) new (u .rule-table .kept .1 .1 .1 .0) (held s .holds .roomy) .long
+  after-long = made-back (held s) (s .pre .1 .0) (from v) (many v) (v .before .values-from .ensures) (v .words-of .ensures) new (u .rule-table .kept .1 .1 .1 .0) .long
 
   done : {vals' : List ℕ} → (u .rule-table .result ≤ s .args .p → vals' ≡ placed (s .args .carry) (s .args .d) (s .args .p) (s .args .t) (u .rule-table .result) after)
       → (n m : ℕ) → Acts (s .args .carry) (s .args .d) (s .args .w) (s .args .p) (s .args .t) n m (pushed (tableOfAll (s .args .carry) (tableAlgebra (s .args .tables) (s .args .carry) .unmet (s .args .g) ∷ []))) (u .rule-table .result) (s .args .ws .now) (s .args .vals .now) (u .rule-table .last .0) vals'
-  done moved x y = pushed-acted (s .pre .0 .0) (deep s) (from v) (many v) (v .before .values-from .ensures) (v .words-of .ensures) new (u .rule-table .kept .1 .1 .1 .0) (u .rule-table .ensures .0) (rule-filled (s .args .carry) (s .args .tables) (s .args .g)) (rule-ordered (s .args .carry) (s .args .tables) (s .args .g)) moved
+  done moved x y = pushed-acted (s .pre .0 .0) (s .pre .1 .0) (from v) (many v) (v .before .values-from .ensures) (v .words-of .ensures) new (u .rule-table .kept .1 .1 .1 .0) (u .rule-table .ensures .0) (rule-filled (s .args .carry) (s .args .tables) (s .args .g)) (rule-ordered (s .args .carry) (s .args .tables) (s .args .g)) moved
 
 mul-area : tie.Need-mul-area
-mul-area c = let s = c .before .before .before .before in omega (arith, one s)
+mul-area c = let s = c .before .before .before .before in omega (arith, one-fits (held s) (s .pre .1 .0))
 
 sub-values-from : tie.Need-sub-values-from
 sub-values-from c = search needs
@@ -111,25 +84,25 @@ part-rule-table-end : tie.Need-part-rule-table-end
 part-rule-table-end c = omega (arith, within (c .before .before .before))
 
 mul-rule-table-2 : tie.Need-mul-rule-table-2
-mul-rule-table-2 c = let s = start (c .before .before .before .before) in omega (arith, there s)
+mul-rule-table-2 c = let s = start (c .before .before .before .before) in omega (arith, new-fits (held s) (s .pre .1 .0))
 
 sub-rule-table-2 : tie.Need-sub-rule-table-2
 sub-rule-table-2 c = search needs
 
 mul-rule-table-3 : tie.Need-mul-rule-table-3
-mul-rule-table-3 c = let s = start (c .before .before .before .before) in omega (arith, last s)
+mul-rule-table-3 c = let s = start (c .before .before .before .before) in omega (arith, scratch-fits (held s) (s .pre .1 .0))
 
 rule-table-requires : tie.Need-rule-table-requires
 rule-table-requires c κs =
     let v = c .before .before .before .before in
     let s = start v in
-    ((s .pre .0 .0, s .pre .0 .1, s .pre .0 .2, s .pre .0 .4, s .pre .0 .6), ((apart s, last s), (free-zero (held s), scratch-zero (held s), s .pre .0 .5, none v)))
+    ((s .pre .0 .0, s .pre .0 .1, s .pre .0 .2, s .pre .0 .4, s .pre .0 .6), ((new-below (held s) (s .pre .1 .0), scratch-fits (held s) (s .pre .1 .0)), (free-zero (held s), scratch-zero (held s), s .pre .0 .5, no-values (held s) (s .pre .1 .0) (from v) (many v) (v .before .values-from .ensures) (v .words-of .ensures))))
 
 move-values-requires : tie.Need-move-values-requires
 move-values-requires c κs =
     let u = c .before .before .before .before .before .before .before .before .before in
     let s = start (v u) in
-    (u .rule-table .ensures .1, deep s, omega (arith, held s .holds .roomy .room, after-long u))
+    (u .rule-table .ensures .1, s .pre .1 .0, omega (arith, held s .holds .roomy .room, after-long u))
 
 same-length : tie.Need-same-length
 same-length c = search needs
