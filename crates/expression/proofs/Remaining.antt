@@ -8,7 +8,7 @@ use Rattle.expression.specs.declared.Command.{Command}
 use Rattle.expression.specs.declared.Read.the-variants.{Command as Got}
 use Rattle.expression.specs.declared.Counts.{Counts}
 use Rattle.expression.specs.Commands.{readAt}
-use Rattle.expression.specs.Effects.{effect, leaves}
+use Rattle.expression.specs.Effects.{effect, depthBy}
 use Rattle.expression.specs.Reading.{noCounts, counted, countFault, Placed, whole, readFrom, reading}
 use Rattle.expression.proofs.Commands.{read-ends}
 use Rattle.expression.proofs.Totals.{Limited, none-limited, counted-limited}
@@ -56,5 +56,5 @@ module _ (K : ℕ) (s : List ℕ) where
   pub remains-deepest : (at : ℕ) (n : Counts) (cs : List Placed) (z : Counts) → Remains at n cs z → n .deepest ≤ z .deepest
   remains-deepest at n cs z (h, l, (k, x, p)) = from-keeps (λ m. n .deepest ≤ m .deepest) (λ m c f g. unfold counted in omega arith) K k s at n cs z (omega arith) p
 
-  pub next-deepest : {at : ℕ} {n : Counts} {cs : List Placed} {z : Counts} (N : Next at n cs z) → leaves (effect (N .command)) (n .depth) ≤ z .deepest
+  pub next-deepest : {at : ℕ} {n : Counts} {cs : List Placed} {z : Counts} (N : Next at n cs z) → depthBy (effect (N .command)) (n .depth) ≤ z .deepest
   next-deepest {at} {n} {cs} {z} N = let d = remains-deepest (N .next) (counted n (N .command)) (N .rest) z (N .after) in unfold counted in omega arith

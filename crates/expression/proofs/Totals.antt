@@ -10,7 +10,7 @@ use Rattle.expression.specs.declared.Effect.{Effect}
 use Rattle.expression.specs.declared.Effect.the-variants.{Push, Unite, Change, Pass}
 use Rattle.expression.specs.declared.Counts.{Counts}
 use Rattle.expression.specs.Limits.{atomLimit, ruleLimit, depthLimit, countLimit}
-use Rattle.expression.specs.Effects.{effect, needs, leaves}
+use Rattle.expression.specs.Effects.{effect, operandsBy, depthBy}
 use Rattle.expression.specs.Reading.{noCounts, countedBy, counted, capped, faultBy, countFault}
 
 pub same-counts : (m n : Counts) → m .atoms ≡ n .atoms → m .rules ≡ n .rules → m .depth ≡ n .depth → m .deepest ≡ n .deepest → m ≡ n
@@ -86,21 +86,21 @@ counted-limited n c f h = step (effect c) f
 
 -- ---- a command that passes 9 to 11 has its operands, and leaves one at least
 
-pub passes-needs : (n : Counts) (c : Command) → countFault n c ≡ 0 → needs (effect c) ≤ n .depth
+pub passes-operands : (n : Counts) (c : Command) → countFault n c ≡ 0 → operandsBy (effect c) ≤ n .depth
 unfolding countFault
-passes-needs n c f = step (effect c) f
+passes-operands n c f = step (effect c) f
   where
-    step : (e : Effect) → faultBy n e ≡ 0 → needs e ≤ n .depth
+    step : (e : Effect) → faultBy n e ≡ 0 → operandsBy e ≤ n .depth
     step (Push l) f = zero-le
     step Unite f = ltb-false (n .depth) 2 (unrefused _ _ _ f .0)
     step Change f = ltb-false (n .depth) 1 (unrefused _ _ _ f .0)
     step Pass f = ltb-false (n .depth) 1 (unrefused _ _ _ f .0)
 
-pub leaves-one : (e : Effect) (t : ℕ) → needs e ≤ t → 1 ≤ leaves e t
-leaves-one (Push l) t h = omega arith
-leaves-one Unite t h = omega arith
-leaves-one Change t h = h
-leaves-one Pass t h = h
+pub one-left : (e : Effect) (t : ℕ) → operandsBy e ≤ t → 1 ≤ depthBy e t
+one-left (Push l) t h = omega arith
+one-left Unite t h = omega arith
+one-left Change t h = h
+one-left Pass t h = h
 
 pub capped-limited : (n : Counts) → Limited n → capped n ≡ n
 unfolding capped

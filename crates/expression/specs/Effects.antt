@@ -15,18 +15,18 @@ effect (Relabel i j) = Change
 effect (Connect k i j) = Change
 
 -- how many operands there must be
-abbrev pub needs : Effect → ℕ
-needs (Push l) = 0
-needs Unite = 2
-needs Change = 1
-needs Pass = 1
+abbrev pub operandsBy : Effect → ℕ
+operandsBy (Push l) = 0
+operandsBy Unite = 2
+operandsBy Change = 1
+operandsBy Pass = 1
 
 -- how many there are then, of n
-abbrev pub leaves : Effect → ℕ → ℕ
-leaves (Push l) n = n + 1
-leaves Unite n = n - 1
-leaves Change n = n
-leaves Pass n = n
+abbrev pub depthBy : Effect → ℕ → ℕ
+depthBy (Push l) n = n + 1
+depthBy Unite n = n - 1
+depthBy Change n = n
+depthBy Pass n = n
 
 -- how many atoms it brings, and how many rules
 abbrev pub atomsBy : Effect → ℕ

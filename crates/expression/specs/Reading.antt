@@ -14,7 +14,7 @@ use Rattle.expression.specs.declared.Counts.{Counts}
 use Rattle.expression.specs.Limits.{atomLimit, ruleLimit, depthLimit, countLimit}
 use Rattle.expression.specs.Refusals.{crowded, deep, bare}
 use Rattle.expression.specs.Commands.{readAt}
-use Rattle.expression.specs.Effects.{effect, needs, leaves, atomsBy, rulesBy}
+use Rattle.expression.specs.Effects.{effect, operandsBy, depthBy, atomsBy, rulesBy}
 
 -- the counts before the first command
 unfoldable pub noCounts : Counts
@@ -25,14 +25,14 @@ newAtoms c = atomsBy (effect c)
 
 -- how many operands the stack has after a command on n of them
 abbrev pub depthAfter : ℕ → Command → ℕ
-depthAfter n c = leaves (effect c) n
+depthAfter n c = depthBy (effect c) n
 
 abbrev pub countedBy : Counts → Effect → Counts
 countedBy n e = record {
   atoms = n .atoms + atomsBy e;
   rules = n .rules + rulesBy e;
-  depth = leaves e (n .depth);
-  deepest = max (n .deepest) (leaves e (n .depth));
+  depth = depthBy e (n .depth);
+  deepest = max (n .deepest) (depthBy e (n .depth));
 }
 
 unfoldable pub counted : Counts → Command → Counts
@@ -55,9 +55,9 @@ leafFault n leaf.Rule = cond (leb ruleLimit (n .rules)) crowded (cond (leb depth
 -- tests 9 to 11 of an effect after such counts, in order; 0 where it passes
 abbrev pub faultBy : Counts → Effect → ℕ
 faultBy n (Push l) = leafFault n l
-faultBy n Unite = cond (ltb (n .depth) (needs Unite)) bare 0
-faultBy n Change = cond (ltb (n .depth) (needs Change)) bare 0
-faultBy n Pass = cond (ltb (n .depth) (needs Pass)) bare 0
+faultBy n Unite = cond (ltb (n .depth) (operandsBy Unite)) bare 0
+faultBy n Change = cond (ltb (n .depth) (operandsBy Change)) bare 0
+faultBy n Pass = cond (ltb (n .depth) (operandsBy Pass)) bare 0
 
 unfoldable pub countFault : Counts → Command → ℕ
 countFault n c = faultBy n (effect c)

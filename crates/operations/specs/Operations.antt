@@ -2,7 +2,7 @@
 use mathlib.Core.List.{List, [], _∷_}
 use Prim.Native.Nat.{ℕ, _≤_, _<_}
 use Rattle.expression.specs.declared.Command.{Command}
-use Rattle.expression.specs.Effects.{effect, needs, leaves}
+use Rattle.expression.specs.Effects.{effect, operandsBy, depthBy}
 use Rattle.entries.specs.declared.Carry.{Carry}
 use Rattle.entries.specs.Carries.{Entry}
 use Rattle.maps.specs.Maps.{batchedTable}
@@ -17,4 +17,4 @@ pushed x ts = x ∷ ts
 
 -- where the command can act: operands enough, and an area besides scratch for each table that it leaves
 abbrev pub Meets : Command → ℕ → ℕ → Type 0
-Meets c d t = (needs (effect c) ≤ t) × (leaves (effect c) t < d)
+Meets c d t = (operandsBy (effect c) ≤ t) × (depthBy (effect c) t < d)

@@ -22,7 +22,7 @@ use Rattle.expression.specs.Commands.{Suits, readAt}
 use Rattle.expression.specs.Reading.{depthAfter, counted, capped}
 use Rattle.expression.specs.Checks.{Request, check}
 use Rattle.expression.specs.Places.{locate}
-use Rattle.expression.proofs.Totals.{counted-limited, capped-limited, passes-needs}
+use Rattle.expression.proofs.Totals.{counted-limited, capped-limited, passes-operands}
 use Rattle.expression.proofs.Accepted.{Accepted, check-accepted}
 use Rattle.semantics.specs.Expressions.{act}
 use Rattle.semantics.proofs.Effects.{act-deep}
@@ -126,7 +126,7 @@ module _ (a : Request) (r : Record) (ws : List ℕ) where
       suits = read-suits labelCount (a .bytes) (r .place) c next read
 
       passes-depth : Meets c areaCount (n .depth)
-      passes-depth = (passes-needs n c (here-passes labelCount (a .bytes) z here read), omega (arith, here-deepest labelCount (a .bytes) z here read, A .joined .limited .deepest))
+      passes-depth = (passes-operands n c (here-passes labelCount (a .bytes) z here read), omega (arith, here-deepest labelCount (a .bytes) z here read, A .joined .limited .deepest))
 
       pub meets : Meets c areaCount (r .tables)
       meets = rw deep passes-depth

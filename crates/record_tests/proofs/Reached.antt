@@ -13,7 +13,7 @@ use Rattle.expression.specs.declared.Located.the-variants.{Before, Nowhere}
 use Rattle.expression.specs.declared.Read.{Read}
 use Rattle.expression.specs.declared.Read.the-variants.{Command as Got, Fault}
 use Rattle.expression.specs.Commands.{readAt}
-use Rattle.expression.specs.Effects.{effect, leaves}
+use Rattle.expression.specs.Effects.{effect, depthBy}
 use Rattle.expression.specs.Reading.{noCounts, counted, countFault, Placed}
 use Rattle.expression.specs.Places.{locateFrom, locate}
 use Rattle.expression.proofs.Commands.{read-ends}
@@ -34,10 +34,10 @@ module _ (K : ℕ) (s : List ℕ) (z : Counts) where
         let N = remains-next K s at n (h .0) z within (h .1) in
         let same : N .command ≡ c = cc (N .read, e) in subst (λ (x : Command). countFault n x ≡ 0) same (N .passes)
 
-    pub here-deepest : leaves (effect c) (n .depth) ≤ z .deepest
+    pub here-deepest : depthBy (effect c) (n .depth) ≤ z .deepest
     here-deepest =
         let N = remains-next K s at n (h .0) z within (h .1) in
-        let same : N .command ≡ c = cc (N .read, e) in subst (λ (x : Command). leaves (effect x) (n .depth) ≤ z .deepest) same (next-deepest K s N)
+        let same : N .command ≡ c = cc (N .read, e) in subst (λ (x : Command). depthBy (effect x) (n .depth) ≤ z .deepest) same (next-deepest K s N)
 
     pub here-next : Here next (counted n c)
     here-next =

@@ -20,7 +20,7 @@ use Rattle.expression.specs.Reading.{noCounts, newAtoms, depthAfter, counted, P
 use Rattle.expression.specs.Checks.{Request, check}
 use Rattle.expression.specs.Places.{locate}
 use Rattle.expression.proofs.Commands.{read-ends}
-use Rattle.expression.proofs.Totals.{capped-limited, passes-needs}
+use Rattle.expression.proofs.Totals.{capped-limited, passes-operands}
 use Rattle.expression.proofs.Accepted.{Accepted, check-accepted}
 use Rattle.expression.proofs.Places.{Ahead, ahead-start, ahead-step, ahead-here}
 use Rattle.expression.proofs.Remaining.{Remains, remains-start, remains-next, remains-end, Next}
@@ -237,7 +237,7 @@ module _ (K : ℕ) (a : Request) where
                   ahead-step K s asked (h .at) (h .counts) (λ q. omega (arith, q, far)) (N .command) (N .next) n (N .read) same (omega (arith, accepted .short))
                   (h .ahead asked (omega (arith, far)));
               formed = act-formed K (assumed a) apart (a .pairLimit) (a .subsetLimit) (h .counts .atoms) (N .command) us suits (h .formed) e;
-              deep = act-deep B (h .counts .atoms) (N .command) us (rw (h .deep) (passes-needs (h .counts) (N .command) (N .passes))) ∙ ap (λ (m : ℕ). depthAfter m (N .command)) (h .deep);
+              deep = act-deep B (h .counts .atoms) (N .command) us (rw (h .deep) (passes-operands (h .counts) (N .command) (N .passes))) ∙ ap (λ (m : ℕ). depthAfter m (N .command)) (h .deep);
               leads = λ i j q. sym (walk-on B fault (h .counts .atoms) (h .at) (N .command) (take i (N .rest)) us e) ∙ from-here i j (omega arith);
               calls = ap (λ (x : Step). step K a (x .state) (x .words)) (h .calls) ∙ next-holds e;
             }

@@ -16,7 +16,7 @@ use Rattle.expression.specs.Refusals.{offset}
 use Rattle.expression.specs.Effects.{effect}
 use Rattle.expression.specs.Reading.{newAtoms, Placed, noCounts, countFault, reading}
 use Rattle.expression.specs.Checks.{Request, check}
-use Rattle.expression.proofs.Totals.{passes-needs, leaves-one}
+use Rattle.expression.proofs.Totals.{passes-operands, one-left}
 use Rattle.expression.proofs.Checks.{Joined}
 use Rattle.expression.proofs.Accepted.{check-accepted}
 use Rattle.expression.proofs.Remaining.{remains-start, remains-next}
@@ -44,7 +44,7 @@ some-all n (c ∷ cs) es h = some-all (n + newAtoms c) cs (act trees n c es) (ac
 -- the first command makes an operand: all others are bare
 some-first : (c : Command) → countFault noCounts c ≡ 0 → 1 ≤ length (act trees 0 c [])
 unfolding noCounts
-some-first c h = let k = passes-needs noCounts c h in subst (λ m. 1 ≤ m) (sym (act-deep trees 0 c [] k)) (leaves-one (effect c) 0 k)
+some-first c h = let k = passes-operands noCounts c h in subst (λ m. 1 ≤ m) (sym (act-deep trees 0 c [] k)) (one-left (effect c) 0 k)
 
 -- a list that is not empty
 filled-by : (es : List Expr) → 1 ≤ length es → (e : Expr) × (fs : List Expr) × (es ≡ e ∷ fs)

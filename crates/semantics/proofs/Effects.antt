@@ -8,7 +8,7 @@ use Rattle.expression.specs.declared.Command.{Command}
 use Rattle.expression.specs.declared.Command.the-variants.{Atom, Rule, Union, Relabel, Connect}
 use Rattle.expression.specs.declared.Effect.{Effect}
 use Rattle.expression.specs.declared.Effect.the-variants.{Push, Unite, Change, Pass}
-use Rattle.expression.specs.Effects.{effect, needs, leaves}
+use Rattle.expression.specs.Effects.{effect, operandsBy, depthBy}
 use Rattle.expression.specs.Reading.{depthAfter}
 use Rattle.semantics.specs.Expressions.{Operations, uniteNewest, changeNewest, act}
 
@@ -30,7 +30,7 @@ module _ {Y : Type 0} where
 
   -- ---- how deep the stack is then
 
-  unite-long : (g : Y → Y → Y) (ys : List Y) → 2 ≤ length ys → length (uniteNewest g ys) ≡ leaves Unite (length ys)
+  unite-long : (g : Y → Y → Y) (ys : List Y) → 2 ≤ length ys → length (uniteNewest g ys) ≡ depthBy Unite (length ys)
   unfolding uniteNewest
   unite-long g [] l = absurd (omega arith)
   unite-long g (b ∷ []) l = absurd (omega arith)
@@ -41,13 +41,13 @@ module _ {Y : Type 0} where
   change-long g [] = refl
   change-long g (y ∷ ys) = refl
 
-  does-deep : (e : Effect) (f : List Y → List Y) → Does e f → (ys : List Y) → needs e ≤ length ys → length (f ys) ≡ leaves e (length ys)
+  does-deep : (e : Effect) (f : List Y → List Y) → Does e f → (ys : List Y) → operandsBy e ≤ length ys → length (f ys) ≡ depthBy e (length ys)
   does-deep (Push l) f d ys h = ap length (d .1 ys) ∙ omega arith
   does-deep Unite f d ys h = ap length (d .1 ys) ∙ unite-long (d .0) ys h
   does-deep Change f d ys h = ap length (d .1 ys) ∙ change-long (d .0) ys
   does-deep Pass f d ys h = ap length (d ys)
 
-  pub act-deep : (B : Operations Y) (n : ℕ) (c : Command) (ys : List Y) → needs (effect c) ≤ length ys → length (act B n c ys) ≡ depthAfter (length ys) c
+  pub act-deep : (B : Operations Y) (n : ℕ) (c : Command) (ys : List Y) → operandsBy (effect c) ≤ length ys → length (act B n c ys) ≡ depthAfter (length ys) c
   act-deep B n c ys h = does-deep (effect c) (act B n c) (act-does B n c) ys h
 
   -- ---- a stack that has operands keeps one, whether the command has all of its own or not

@@ -18,9 +18,9 @@ use Rattle.expression.specs.declared.Counts.{Counts}
 use Rattle.expression.specs.Limits.{atomLimit}
 use Rattle.expression.specs.Refusals.{unknown, cut, group, same}
 use Rattle.expression.specs.Commands.{oneOperand, twoOperands, isCommand, operandCount, commandOf, readCommand, readAt, Suits}
-use Rattle.expression.specs.Effects.{effect, needs}
+use Rattle.expression.specs.Effects.{effect, operandsBy}
 use Rattle.expression.specs.Reading.{depthAfter, counted, countFault, Placed, Reading, faulty, whole, noCounts, behind, readFrom, reading}
-use Rattle.expression.proofs.Totals.{Limited, none-limited, counted-limited, passes-needs}
+use Rattle.expression.proofs.Totals.{Limited, none-limited, counted-limited, passes-operands}
 use Rattle.semantics.specs.Expressions.{Expr, act, actAll, trees}
 use Rattle.semantics.proofs.Effects.{act-deep}
 use Rattle.semantics.proofs.Stacks.{atomsAfter}
@@ -106,7 +106,7 @@ from-sound K (suc k) s at n es h l = ends (ltb at (length s)) (λ next c e g. fr
     counts next c w rest zero e = behind-sound K n es at c (readFrom K k s next (counted n c)) w (rest next c depth-counted (counted-limited n c e l))
       where
         depth-counted : counted n c .depth ≡ length (act trees (n .atoms) c es)
-        depth-counted = unfold counted in ap (λ k. depthAfter k c) h ∙ sym (act-deep trees (n .atoms) c es (subst (λ k. needs (effect c) ≤ k) h (passes-needs n c e)))
+        depth-counted = unfold counted in ap (λ k. depthAfter k c) h ∙ sym (act-deep trees (n .atoms) c es (subst (λ k. operandsBy (effect c) ≤ k) h (passes-operands n c e)))
     counts next c w rest (suc f) e = tt
 
     reads : Rest → (r : Read) → readAt K s at ≡ r

@@ -10,7 +10,7 @@ use Rattle.expression.specs.declared.Checked.the-variants as checked
 use Rattle.expression.specs.declared.Effect.{Effect}
 use Rattle.expression.specs.declared.Effect.the-variants.{Push, Unite, Change, Pass}
 use Rattle.expression.specs.Limits.{workspaceNeed}
-use Rattle.expression.specs.Effects.{needs, leaves}
+use Rattle.expression.specs.Effects.{operandsBy, depthBy}
 use Rattle.expression.specs.Checks.{Request, check}
 use Rattle.tables.specs.Definitions.{Pair}
 use Rattle.rows.specs.Parts.{zeros}
@@ -30,7 +30,7 @@ countBelow t k counts = cond (ltb t k) 0 (getD counts (t - k) 0)
 
 -- t tables have the operands that an effect needs, and n counts have room for them and for what it leaves
 abbrev pub Applies : Effect → ℕ → ℕ → Type 0
-Applies e t n = (needs e ≤ t) × (t ≤ n) × (leaves e t ≤ n)
+Applies e t n = (operandsBy e ≤ t) × (t ≤ n) × (depthBy e t ≤ n)
 
 -- the counts after a command of such an effect on t tables, whose newest table then has r entries
 unfoldable pub tallied : Effect → ℕ → ℕ → List ℕ → List ℕ

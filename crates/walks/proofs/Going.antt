@@ -13,9 +13,9 @@ use Rattle.expression.specs.declared.Counts.{Counts}
 use Rattle.expression.specs.declared.Read.the-variants.{Command as Got, Fault}
 use Rattle.expression.specs.Limits.{depthLimit}
 use Rattle.expression.specs.Commands.{Suits, readAt}
-use Rattle.expression.specs.Effects.{effect, needs, leaves}
+use Rattle.expression.specs.Effects.{effect, operandsBy, depthBy}
 use Rattle.expression.specs.Reading.{noCounts, newAtoms, depthAfter, counted, capped, countFault, Placed}
-use Rattle.expression.proofs.Totals.{counted-limited, capped-limited, passes-needs, leaves-one}
+use Rattle.expression.proofs.Totals.{counted-limited, capped-limited, passes-operands, one-left}
 use Rattle.expression.proofs.Checks.{Joined}
 use Rattle.expression.proofs.Remaining.{Remains, remains-start, remains-next, remains-end, Next, next-deepest}
 use Rattle.semantics.specs.Expressions.{Operations, act}
@@ -91,12 +91,12 @@ module _ (kind : Tables) (carry : Carry) (o : Assumptions) (w p stop : ℕ) (s :
         pub suits : Suits labelCount c
         suits = read-suits labelCount s at c next got
 
-        operands : needs (effect c) ≤ n .depth
-        operands = passes-needs n c (subst (λ x. countFault n x ≡ 0) is-command (N .passes))
+        operands : operandsBy (effect c) ≤ n .depth
+        operands = passes-operands n c (subst (λ x. countFault n x ≡ 0) is-command (N .passes))
 
         -- d areas are enough for the deepest stack
         pub meets : {d : ℕ} → z .deepest < d → Meets c d (n .depth)
-        meets l = (operands, let k = subst (λ x. leaves (effect x) (n .depth) ≤ z .deepest) is-command (next-deepest labelCount s N) in omega arith)
+        meets l = (operands, let k = subst (λ x. depthBy (effect x) (n .depth) ≤ z .deepest) is-command (next-deepest labelCount s N) in omega arith)
 
         abbrev pub after : List (List Entry)
         after = act B (n .atoms) c stack
@@ -116,7 +116,7 @@ module _ (kind : Tables) (carry : Carry) (o : Assumptions) (w p stop : ℕ) (s :
               rest = N .rest;
               remains = rw (same, sym is-command, sym is-next) (N .after);
               deep = rw (same, deeper) (act-deep B (n .atoms) c stack (rw (g .deep) operands) ∙ ap (λ k. depthAfter k c) (g .deep));
-              begun = λ l. rw (same, deeper) (leaves-one (effect c) (n .depth) operands);
+              begun = λ l. rw (same, deeper) (one-left (effect c) (n .depth) operands);
               leads = rw (same, atoms) (sym (walk-on B f (n .atoms) at c (before stop (N .rest)) stack none) ∙ from-here);
             }
 
