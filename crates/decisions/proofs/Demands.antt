@@ -34,7 +34,7 @@ pub record Tree (K : ℕ) (s : List ℕ) : Type 0 where
   pub counted : countsOf (reading K s) .atoms ≡ count
   pub few : count ≤ atomLimit
 
-pub tree-of : (K : ℕ) (a : Request) → Readable a (reading K (a .bytes)) → Tree K (a .bytes)
+pub tree-of : (K : ℕ) (a : Request) → Readable (reading K (a .bytes)) → Tree K (a .bytes)
 unfolding expressionOf
 tree-of K a r = let t = readable-tree K a (reading K (a .bytes)) refl r in record { fits = t .fits; distinct = t .distinct; count = t .count; numbered = t .numbered; counted = t .counted; few = t .few }
 

@@ -5,9 +5,7 @@ use mathlib.Core.Bool.{Bool, false, true≢false}
 use mathlib.Core.List.{List, [], _∷_, map}
 use Prim.Native.Nat.{ℕ, zero, suc, _+_, _≤_}
 use native.Mathlib.Omega.{arith}
-use lib.Dec.{eqb}
 use lib.ListN.{length}
-use borrow.Author.Tests.{eqb-true, not-false}
 use Rattle.lists.specs.Lists.{All, run}
 use Rattle.expression.specs.declared.Counts.{Counts}
 use Rattle.expression.specs.declared.Checked.{Checked}
@@ -15,8 +13,8 @@ use Rattle.expression.specs.declared.Checked.the-variants.{Passed, Refused}
 use Rattle.expression.specs.Limits.{atomLimit}
 use Rattle.expression.specs.Commands.{Suits}
 use Rattle.expression.specs.Reading.{newAtoms, Placed, Reading, faulty, whole, noCounts, reading}
-use Rattle.expression.specs.Checks.{Request, firstOf, isFaulty, countsOf, absentTest, faultTest, unjoinedTest, checks, check}
-use Rattle.expression.proofs.Accepted.{passed-by, check-accepted}
+use Rattle.expression.specs.Checks.{Request, isFaulty, countsOf, check}
+use Rattle.expression.proofs.Accepted.{check-accepted}
 use Rattle.semantics.specs.Expressions.{Expr, Operations, act, actAll, trees}
 use Rattle.semantics.specs.Programs.{numbers}
 use Rattle.semantics.specs.AnswerSets.{Assumptions}
@@ -52,23 +50,14 @@ walk-all {X} B f n (c ∷ cs) ts us h = step (f (newest vs)) (λ k. walk-all B f
 
 -- ---- checks that passed
 
--- 5 to 11, 12 and 13
-pub record Readable (a : Request) (r : Reading) : Type 0 where
+-- 5 to 12
+pub record Readable (r : Reading) : Type 0 where
   pub sound : isFaulty r ≡ false
   pub one : countsOf r .depth ≡ 1
-  pub known : absentTest (a .bytes) (countsOf r .atoms) (a .assumedTrue) (a .assumedFalse) .refuses ≡ false
 
-pub checks-passed : (a : Request) (r : Reading) (z y : Counts) → firstOf z (checks a r) ≡ Passed y → Readable a r
-unfolding checks faultTest unjoinedTest
-checks-passed a r z y h =
-    let k1 = passed-by z y _ _ h in
-    let k2 = passed-by z y _ _ (k1 .1) in
-    let k3 = passed-by z y _ _ (k2 .1) in
-    let k4 = passed-by z y _ _ (k3 .1) in
-    let k5 = passed-by z y _ _ (k4 .1) in
-    let k6 = passed-by z y _ _ (k5 .1) in
-    let k7 = passed-by z y _ _ (k6 .1) in
-    record { sound = k5 .0; one = eqb-true (countsOf r .depth) 1 (not-false (eqb (countsOf r .depth) 1) (k6 .0)); known = k7 .0 }
+pub check-readable : (K : ℕ) (a : Request) {z : Counts} → check K a ≡ Passed z → Readable (reading K (a .bytes))
+unfolding isFaulty countsOf
+check-readable K a {z} h = let j = check-accepted K a z h .joined in rw (j .read) (record { sound = refl; one = j .joined })
 
 -- ---- the bytes are one tree
 
@@ -87,7 +76,7 @@ one-tree [] h = absurd (omega arith)
 one-tree (e ∷ []) h = refl
 one-tree (e ∷ f ∷ es) h = absurd (omega arith)
 
-pub readable-tree : (K : ℕ) (a : Request) (r : Reading) → reading K (a .bytes) ≡ r → Readable a r → OneTree K r
+pub readable-tree : (K : ℕ) (a : Request) (r : Reading) → reading K (a .bytes) ≡ r → Readable r → OneTree K r
 unfolding isFaulty countsOf commandsIn treeOf Chain noCounts
 readable-tree K a (faulty n at) q h = absurd (true≢false (h .sound))
 readable-tree K a (whole cs z) q h =
@@ -98,17 +87,13 @@ readable-tree K a (whole cs z) q h =
     let n : z .atoms ≡ len = omega (arith, s .atoms) in
     record { only = o; fits = f .0; distinct = d; count = len; numbered = e ∙ ap (λ x. run x len) b; counted = n; few = omega (arith, s .few) }
 
-pub check-readable : (K : ℕ) (a : Request) {z : Counts} → check K a ≡ Passed z → Readable a (reading K (a .bytes))
-unfolding check
-check-readable K a {z} h = checks-passed a (reading K (a .bytes)) (countsOf (reading K (a .bytes))) z h
-
 -- the labels of its commands are below K
 pub commands-suit : (K : ℕ) (a : Request) {z : Counts} → check K a ≡ Passed z → All (Suits K) (commandsOf (commandsIn (reading K (a .bytes))))
 unfolding commandsIn
 commands-suit K a {z} h = let j = check-accepted K a z h .joined in rw (j .read) (reading-sound K (a .bytes) (j .placed) z (j .read) .suits)
 
 -- so a walk that no limit stops leaves that tree's table
-pub walked-one : {X : Type 0} (A : Algebra X) (o : Assumptions) (f : List X → ℕ) (K : ℕ) (a : Request) (us : List (List X)) → Readable a (reading K (a .bytes))
+pub walked-one : {X : Type 0} (A : Algebra X) (o : Assumptions) (f : List X → ℕ) (K : ℕ) (a : Request) (us : List (List X)) → Readable (reading K (a .bytes))
     → walk (tables A o) f 0 (commandsIn (reading K (a .bytes))) [] ≡ walked us → us ≡ table A o (expressionOf K (a .bytes)) ∷ []
 unfolding expressionOf
 walked-one A o f K a us r h =
@@ -118,7 +103,7 @@ walked-one A o f K a us r h =
 -- ---- a decision without refusal
 
 pub record Decided {X : Type 0} (A : Algebra X) (y : List X → Bool) (K : ℕ) (a : Request) (v : Verdict) : Type 0 where
-  pub readable : Readable a (reading K (a .bytes))
+  pub readable : Readable (reading K (a .bytes))
   pub says : v ≡ answer (y (table A (assumed a) (expressionOf K (a .bytes))))
 
 abbrev pub Settled : Verdict → Type 0
@@ -133,7 +118,7 @@ decided {X} A f y K a h = step (check K a) refl h
     W : Walked X
     W = walk (tables A (assumed a)) f 0 (commandsIn (reading K (a .bytes))) []
 
-    ends : Readable a (reading K (a .bytes)) → (w : Walked X) → W ≡ w → Settled (conclude y w) → Decided A y K a (conclude y w)
+    ends : Readable (reading K (a .bytes)) → (w : Walked X) → W ≡ w → Settled (conclude y w) → Decided A y K a (conclude y w)
     ends r (stopped n at) q k = unfold conclude in (absurd k)
     ends r (walked us) q k = record { readable = r; says = unfold conclude in (ap (λ vs. answer (y (newest vs))) (walked-one A (assumed a) f K a us r q)) }
 
