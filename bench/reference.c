@@ -108,12 +108,12 @@ static outcome check(const request *r, const size_t *asked)
     if (r->sheet_len > SHEET_BYTES) return refused(OVERLONG, 0);
     if (!is_limit(r->plan_limit) || !is_limit(r->subset_limit)) return refused(LIMITS, 0);
     if (r->workspace_len < workspace_need(r)) return refused(CRAMPED, 0);
-    if (r->pins_in & r->pins_out) return refused(CLASH, 0);
     counts n = {0, 0, 0};
     bool found = false;
     outcome o = check_sheet(r, asked ? *asked : 0, &n, &found);
     if (o.kind == REFUSED) return o;
     if ((r->pins_in | r->pins_out) >> n.atoms) return refused(ABSENT, r->sheet_len);
+    if (r->pins_in & r->pins_out) return refused(CLASH, 0);
     if (asked && !found) return refused(OFFSET, *asked);
     return passed;
 }

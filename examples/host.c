@@ -25,29 +25,32 @@ enum { YES, NO, REFUSED, BAD_USAGE, UNREAD, NOT_TEXT, UNCLEAR, NO_MEMORY, UNWRIT
 
 // ---- refusals in words
 
-typedef struct { const char *word, *reason; } refusal_words;
+// What is refused: the request as a whole, or a byte of the sheet, which can be pointed at.
+typedef enum { REQUEST, BYTE } refused_part;
+
+typedef struct { const char *word, *reason; refused_part part; } refusal_words;
 
 // The first is for numbers that a later library may give.
 static const refusal_words refusals[] = {
-    {"unknown to this host", "the header of the library says more"},
-    {"overlong", "the sheet has over 4096 bytes"},
-    {"limits", "P or G is outside 1 to 1024"},
-    {"cramped", "the workspace is too short for P and G"},
-    {"clash", "a copy is pinned in and out"},
-    {"unknown", "there is no such command byte"},
-    {"cut", "the command's operands are missing"},
-    {"group", "an operand is over 7"},
-    {"same", "a move or link names one group twice"},
-    {"crowded", "this is a 64th copy or a 257th rule"},
-    {"deep", "this is a ninth part"},
-    {"bare", "there are too few parts for this command"},
-    {"unjoined", "the sheet does not end with exactly one part"},
-    {"absent", "a pin is on a copy that the sheet lacks"},
-    {"offset", "no command starts here"},
-    {"subsets full", "a pair of the table here has over G subsets; try a larger -g, up to 1024"},
-    {"plans full", "the table here has over P pairs; try a larger -p, up to 1024"},
-    {"report short", "the report's buffer is too short"},
-    {"record", "the record or workspace was changed between calls"},
+    {"unknown to this host", "the header of the library says more", BYTE},
+    {"overlong", "the sheet has over 4096 bytes", REQUEST},
+    {"limits", "P or G is outside 1 to 1024", REQUEST},
+    {"cramped", "the workspace is too short for P and G", REQUEST},
+    {"clash", "a copy is pinned in and out", REQUEST},
+    {"unknown", "there is no such command byte", BYTE},
+    {"cut", "the command's operands are missing", BYTE},
+    {"group", "an operand is over 7", BYTE},
+    {"same", "a move or link names one group twice", BYTE},
+    {"crowded", "this is a 64th copy or a 257th rule", BYTE},
+    {"deep", "this is a ninth part", BYTE},
+    {"bare", "there are too few parts for this command", BYTE},
+    {"unjoined", "the sheet does not end with exactly one part", BYTE},
+    {"absent", "a pin is on a copy that the sheet lacks", BYTE},
+    {"offset", "no command starts here", BYTE},
+    {"subsets full", "a pair of the table here has over G subsets; try a larger -g, up to 1024", BYTE},
+    {"plans full", "the table here has over P pairs; try a larger -p, up to 1024", BYTE},
+    {"report short", "the report's buffer is too short", BYTE},
+    {"record", "the record or workspace was changed between calls", BYTE},
 };
 
 static const refusal_words *words_of(uint64_t number)
@@ -65,14 +68,13 @@ static void point_at(const uint8_t *sheet, size_t sheet_len, size_t place)
     printf("\n        %*s^^\n", (int)(3 * (place - start)), "");
 }
 
-// Refusals up to clash are not about a byte of the sheet.
 static void print_refusal(const sheet_file *f, uint64_t number, uint64_t place)
 {
     const refusal_words *words = words_of(number);
     printf("refused: %" PRIu64 " %s", number, words->word);
-    if (number > NUNTENNIS_CLASH) printf(" at byte %" PRIu64, place);
+    if (words->part == BYTE) printf(" at byte %" PRIu64, place);
     printf(": %s\n", words->reason);
-    if (number > NUNTENNIS_CLASH && place <= f->sheet_len) point_at(f->sheet, f->sheet_len, (size_t)place);
+    if (words->part == BYTE && place <= f->sheet_len) point_at(f->sheet, f->sheet_len, (size_t)place);
 }
 
 // ---- the decision, with a bar by the walk

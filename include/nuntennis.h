@@ -82,7 +82,7 @@
  *    1  overlong       the sheet is over 4096 bytes                            0
  *    2  limits         P or G is outside 1 to 1024                             0
  *    3  cramped        workspace_len is under 9*P*(G+2)                        0
- *    4  clash          a copy is pinned in and out (any bit, 63 included)      0
+ *    4  clash          a copy of the sheet is pinned in and out                0
  *    5  unknown        no such command byte                                    offset of that command
  *    6  cut            operands are missing                                    offset of that command
  *    7  group          an operand is over 7                                    offset of that command
@@ -100,10 +100,10 @@
  *                      of a walk (see ONE COMMAND A CALL); verdict: also
  *                      before the end
  *
- * They are tested in this order: 1 to 4; then the whole sheet is read, and the first faulty command gives the lowest of 5 to 11 that
- * applies to it; then 12, 13; then 14; then the tables command by command, at each command 15 before 16, and for a report no further than
- * the command asked; then 17. plain and plain_report never give 15. start tests 1 to 13 and no more; verdict 1 to 13, then 18; step 1 to
- * 13, then 18, then its one command, 15 before 16.
+ * They are tested in this order: 1 to 3; then the whole sheet is read, and the first faulty command gives the lowest of 5 to 11 that
+ * applies to it; then 12, 13, 4; then 14; then the tables command by command, at each command 15 before 16, and for a report no
+ * further than the command asked; then 17. plain and plain_report never give 15. start tests 1 to 13 and no more; verdict 1 to 13, then
+ * 18; step 1 to 13, then 18, then its one command, 15 before 16.
  *
  * A table here is the one after a command (document 01, Tables): of pairs for grounded, report and step, of triples for plain and
  * plain_report.

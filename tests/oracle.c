@@ -271,7 +271,6 @@ oracle_answer oracle_check(const oracle_request *r)
     if (r->sheet_len > 4096) return refused(1, 0);
     if (!is_limit(r->plan_limit) || !is_limit(r->subset_limit)) return refused(2, 0);
     if (r->workspace_len < 9 * r->plan_limit * (r->subset_limit + 2)) return refused(3, 0);
-    if ((r->pins_in & r->pins_out) != 0) return refused(4, 0);
     policy p = {0};
     for (size_t at = 0; at < r->sheet_len;) {
         unsigned fault = policy_fault(r->sheet, r->sheet_len, at, &p);
@@ -283,6 +282,7 @@ oracle_answer oracle_check(const oracle_request *r)
     if (p.parts != 1) return refused(12, r->sheet_len);
     for (unsigned c = p.atoms; c < 64; c++)
         if ((r->pins_in >> c & 1) || (r->pins_out >> c & 1)) return refused(13, r->sheet_len);
+    if ((r->pins_in & r->pins_out) != 0) return refused(4, 0);
     return passed;
 }
 

@@ -18,6 +18,7 @@ typedef struct {
 #define CIRCLE "11 00 11 01 21 12 02 21 12 03 21 41 00 02 42 01 02 41 01 03 42 00 03"
 #define LISTED "11 00 12 01 21 41 00 01"
 #define EITHER "11 00 11 00 21 12 01 21 41 00 01"
+#define FIVE "11 00 11 00 21 11 00 21 11 00 21 11 00 21"
 #define NINE "11 00 11 00 11 00 11 00 11 00 11 00 11 00 11 00 11 00"
 // Copy 0 bars three rules that tell copies 2 to 4 apart, so the plans without it have more subsets.
 #define WIDER_WITHOUT \
@@ -27,9 +28,10 @@ typedef struct {
 #define NO {0, 0, 0}
 #define REFUSED(number, place) {2, number, place}
 #define BIT63 ((uint64_t)1 << 63)
+#define COPY40 ((uint64_t)1 << 40)
 
 static const trial trials[] = {
-    // 01, "Sheets to try"
+    // 01, "Sheets to try", with the answer that 02, Item 4 gives to a clash with an empty sheet
     {"the listed sheet", LISTED, 32, 32, 0, 0, YES(1), 1, YES(0)},
     {"pin in on copy 1", LISTED, 32, 32, 2, 0, REFUSED(13, 8), 0, REFUSED(13, 8)},
     {"pin out on copy 1", LISTED, 32, 32, 0, 2, REFUSED(13, 8), 0, REFUSED(13, 8)},
@@ -56,7 +58,7 @@ static const trial trials[] = {
     {"P = 1024, G = 1", "11 00 11 00 21", 1024, 1, 0, 0, REFUSED(15, 4), 0, YES(0)},
     {"nine parts", NINE, 32, 32, 0, 0, REFUSED(10, 16), 0, REFUSED(10, 16)},
     {"two parts", "11 00 11 01", 32, 32, 0, 0, REFUSED(12, 4), 0, REFUSED(12, 4)},
-    {"clash, empty sheet", "", 32, 32, 1, 1, REFUSED(4, 0), 0, REFUSED(4, 0)},
+    {"clash, empty sheet", "", 32, 32, 1, 1, REFUSED(12, 0), 0, REFUSED(12, 0)},
     // the order of the checks
     {"operands missing before a group", "41 08", 32, 32, 0, 0, REFUSED(6, 0), 0, REFUSED(6, 0)},
     {"a group before same", "41 08 08", 32, 32, 0, 0, REFUSED(7, 0), 0, REFUSED(7, 0)},
@@ -66,7 +68,14 @@ static const trial trials[] = {
     {"a move on nothing", "31 00 01", 32, 32, 0, 0, REFUSED(11, 0), 0, REFUSED(11, 0)},
     {"a join of one part", "11 00 21", 32, 32, 0, 0, REFUSED(11, 2), 0, REFUSED(11, 2)},
     {"unknown byte", "11 00 51", 32, 32, 0, 0, REFUSED(5, 2), 0, REFUSED(5, 2)},
-    {"clash on bit 63", LISTED, 32, 32, BIT63, BIT63, REFUSED(4, 0), 0, REFUSED(4, 0)},
+    {"clash", LISTED, 32, 32, 1, 1, REFUSED(4, 0), 0, REFUSED(4, 0)},
+    {"clash on bit 63", LISTED, 32, 32, BIT63, BIT63, REFUSED(13, 8), 0, REFUSED(13, 8)},
+    {"clash on copy 40 of five", FIVE, 32, 32, COPY40, COPY40, REFUSED(13, 14), 0, REFUSED(13, 14)},
+    {"clash beside an absent copy pinned in", FIVE, 32, 32, COPY40 | 1, 1, REFUSED(13, 14), 0, REFUSED(13, 14)},
+    {"clash beside an absent copy pinned out", FIVE, 32, 32, 1, COPY40 | 1, REFUSED(13, 14), 0, REFUSED(13, 14)},
+    {"clash on the last of five", FIVE, 32, 32, 18, 16, REFUSED(4, 0), 0, REFUSED(4, 0)},
+    {"a faulty command before clash", "11 00 21", 32, 32, 1, 1, REFUSED(11, 2), 0, REFUSED(11, 2)},
+    {"unjoined before clash", "11 00 11 01", 32, 32, 1, 1, REFUSED(12, 4), 0, REFUSED(12, 4)},
     {"pin on bit 63", LISTED, 32, 32, BIT63, 0, REFUSED(13, 8), 0, REFUSED(13, 8)},
     {"unjoined before absent", "11 00 11 01", 32, 32, BIT63, 0, REFUSED(12, 4), 0, REFUSED(12, 4)},
     {"limits before clash", "", 0, 32, 1, 1, REFUSED(2, 0), 0, REFUSED(2, 0)},

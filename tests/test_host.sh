@@ -122,7 +122,11 @@ expect 3 'host: -i 64: not a copy, as they are numbered 0 to 63' "$host" -i 64 l
 expect 3 'host: -i 0-2: not a number' "$host" -i 0-2 listed.hex
 expect 3 "host: -o '': no copy is listed" "$host" -o '' listed.hex
 expect 2 'refused: 13 absent at byte 8' "$host" -i 63 listed.hex
-expect 2 'refused: 4 clash' "$host" -i 0 -o 0 listed.hex
+expect 2 'refused: 4 clash: a copy' "$host" -i 0 -o 0 listed.hex
+expect 1 '0' sh -c '"$0" -i 0 -o 0 listed.hex | grep -cF "^^"' "$host"
+expect 2 'refused: 13 absent at byte 8' "$host" -i 40 -o 40 listed.hex
+expect 2 'refused: 13 absent at byte 8' "$host" -i 0 -i 40 -o 0 listed.hex
+expect 2 'refused: 12 unjoined at byte 0' "$host" -i 0 -o 0 empty
 expect 0 'standard input, read as hexadecimal text: 8 bytes' from listed.hex "$host" -
 expect 0 'standard input, read as raw bytes: 8 bytes' from listed.bin "$host" - --raw
 expect 3 'host: -x: no such option' "$host" -x listed.hex

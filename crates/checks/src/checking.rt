@@ -1,4 +1,4 @@
-// The checks that come before any table (01, Outcomes: 1 to 13).
+// The checks that come before any table (01, Outcomes: 1 to 13; 02, Item 4: a clash last).
 ghost use mathlib.Core.Path.{_≡_};
 ghost use mathlib.Core.Bool.{not, _&&_};
 ghost use Prim.Native.Nat.{_≤_, _<_, _^_};
@@ -24,7 +24,7 @@ use expression::refusals::OVERLONG;
 use expression::refusals::UNJOINED;
 use reader::read_next;
 
-// All checks in 01's order, with limits p and g, room for so many words, and the atoms assumed true and false as masks.
+// All checks in the order of `checks`, with limits p and g, room for so many words, and the atoms assumed true and false as masks.
 pub fn check(
     s: &[u8],
     p: u64,
@@ -44,15 +44,15 @@ pub fn check(
     if is_cramped(p, g, room) {
         return Checked::Refused(CRAMPED, 0);
     }
-    if assumed_true & assumed_false != 0 {
-        return Checked::Refused(CLASH, 0);
-    }
     let r = check_bytes(s);
     let Checked::Passed(n) = r else {
         return r;
     };
     if has_absent(n.atoms, assumed_true, assumed_false) {
         return Checked::Refused(ABSENT, s.len());
+    }
+    if assumed_true & assumed_false != 0 {
+        return Checked::Refused(CLASH, 0);
     }
     r
 }

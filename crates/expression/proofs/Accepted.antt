@@ -1,21 +1,18 @@
 -- What it means that all checks pass: every bound that the code after them may use. Assumes nothing.
-use mathlib.Core.Path.{_≡_, refl, sym, ap, _∙_, subst}
-use mathlib.Core.Bool.{Bool, true, false, cond}
-use mathlib.Core.List.{List, [], _∷_}
+use mathlib.Core.Path.{_≡_, sym, ap, _∙_, subst}
+use mathlib.Core.List.{[]}
 use Prim.Native.Nat.{ℕ, _^_, _≤_, _<_}
-use native.Mathlib.Omega.{arith}
 use lib.Bits.{bitAnd}
 use lib.Dec.{ltb}
 use lib.ListN.{length}
 use borrow.Author.Tests.{eqb-true, ltb-true, ltb-false, not-false}
-use Rattle.lists.specs.Lists.{All}
 use Rattle.lists.proofs.Members.{and-both}
 use Rattle.expression.specs.declared.Counts.{Counts}
-use Rattle.expression.specs.declared.Checked.the-variants.{Passed, Refused}
+use Rattle.expression.specs.declared.Checked.the-variants.{Passed}
 use Rattle.expression.specs.Limits.{byteLimit, tableLimit, workspaceNeed}
 use Rattle.expression.specs.Reading.{reading}
-use Rattle.expression.specs.Checks.{Request, Test, firstOf, countsOf, isLimit, overlongTest, limitsTest, crampedTest, clashTest, faultTest, unjoinedTest, absentTest, checks, check, checkBytes}
-use Rattle.expression.proofs.Checks.{passes, none-left, Joined, bytes-joined, limit-tested}
+use Rattle.expression.specs.Checks.{Request, countsOf, isLimit, overlongTest, limitsTest, crampedTest, clashTest, faultTest, unjoinedTest, absentTest, checks, check, checkBytes}
+use Rattle.expression.proofs.Checks.{passed-all, passes, none-left, Joined, bytes-joined, limit-tested}
 
 pub record Accepted (K : ℕ) (a : Request) (n : Counts) : Type 0 where
   pub short : length (a .bytes) ≤ byteLimit
@@ -28,23 +25,12 @@ pub record Accepted (K : ℕ) (a : Request) (n : Counts) : Type 0 where
   pub trueThere : a .assumedTrue < 2 ^ n .atoms
   pub falseThere : a .assumedFalse < 2 ^ n .atoms
 
--- where a list passes, none of its tests refuses, and the counts are those given
-passed-all : (z n : Counts) (ts : List Test) → firstOf z ts ≡ Passed n → All (λ t. t .refuses ≡ false) ts × (z ≡ n)
-unfolding firstOf
-passed-all z n [] h = (tt, cc)
-passed-all z n (t ∷ ts) h = step (t .refuses) refl (λ k. passed-all z n ts k) h
-  where
-    step : (b : Bool) → t .refuses ≡ b → (firstOf z ts ≡ Passed n → All (λ u. u .refuses ≡ false) ts × (z ≡ n)) → cond b (Refused (t .number) (t .place)) (firstOf z ts) ≡ Passed n
-        → All (λ u. u .refuses ≡ false) (t ∷ ts) × (z ≡ n)
-    step true e g k = let q : _≡_ {A = ℕ} 0 1 = cc in absurd (omega arith)
-    step false e g k = let r = g k in ((e, r .0), r .1)
-
 -- what passes all checks; their order is taken apart here alone
 pub check-accepted : (K : ℕ) (a : Request) (n : Counts) → check K a ≡ Passed n → Accepted K a n
 unfolding check checks checkBytes overlongTest limitsTest crampedTest clashTest absentTest
 check-accepted K a n h =
     let r = reading K (a .bytes) in
-    let ((one, (two, (three, (four, (read, (twelve, (thirteen, none))))))), e) = passed-all (countsOf r) n _ h in
+    let ((one, (two, (three, (read, (twelve, (thirteen, (four, none))))))), e) = passed-all (countsOf r) n _ h in
     let limits = and-both (isLimit (a .pairLimit)) (isLimit (a .subsetLimit)) (not-false _ two) in
     let there = and-both (ltb (a .assumedTrue) (2 ^ countsOf r .atoms)) (ltb (a .assumedFalse) (2 ^ countsOf r .atoms)) (not-false _ thirteen) in
     let passed = sym (passes (countsOf r) (faultTest r) _ (Passed n) read (passes (countsOf r) (unjoinedTest (a .bytes) r) [] (Passed n) twelve (ap Passed (sym e) ∙ none-left (countsOf r)))) in

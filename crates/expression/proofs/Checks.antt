@@ -9,6 +9,7 @@ use lib.Dec.{eqb, ltb}
 use lib.ListN.{length}
 use lib.Pow.{pow-pos}
 use borrow.Author.Tests.{eq-eqb, ne-eqb, eqb-true, ltb-true, ltb-false}
+use Rattle.lists.specs.Lists.{All}
 use Rattle.lists.proofs.Members.{and-both}
 use Rattle.expression.specs.declared.Command.{Command}
 use Rattle.expression.specs.declared.Read.the-variants.{Command as Got, Fault}
@@ -76,6 +77,10 @@ module _ (K : ℕ) (s : List ℕ) where
 
 -- ---- the tests in their order, each by its place in the list
 
+-- none of them refuses
+abbrev pub Pass : List Test → Type 0
+Pass ts = All (λ t. t .refuses ≡ false) ts
+
 module _ (z : Counts) (t : Test) (ts : List Test) where
   pub refuses : t .refuses ≡ true → Refused (t .number) (t .place) ≡ firstOf z (t ∷ ts)
   unfolding firstOf
@@ -88,6 +93,17 @@ module _ (z : Counts) (t : Test) (ts : List Test) where
 pub none-left : (z : Counts) → Passed z ≡ firstOf z []
 unfolding firstOf
 none-left z = refl
+
+-- where a list passes, none of its tests refuses, and the counts are those given
+pub passed-all : (z n : Counts) (ts : List Test) → firstOf z ts ≡ Passed n → Pass ts × (z ≡ n)
+unfolding firstOf
+passed-all z n [] h = (tt, cc)
+passed-all z n (t ∷ ts) h = step (t .refuses) refl (λ k. passed-all z n ts k) h
+  where
+    step : (b : Bool) → t .refuses ≡ b → (firstOf z ts ≡ Passed n → Pass ts × (z ≡ n)) → cond b (Refused (t .number) (t .place)) (firstOf z ts) ≡ Passed n
+        → Pass (t ∷ ts) × (z ≡ n)
+    step true e g k = let q : _≡_ {A = ℕ} 0 1 = cc in absurd (omega arith)
+    step false e g k = let r = g k in ((e, r .0), r .1)
 
 -- 5 to 12 refuse, whatever tests come behind
 pub bytes-refuse : (K : ℕ) (s : List ℕ) (ts : List Test) (f at : ℕ) → checkBytes K s ≡ Refused f at

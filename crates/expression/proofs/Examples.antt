@@ -54,6 +54,9 @@ opening = 0x11 ∷ 0 ∷ 0x12 ∷ 1 ∷ 0x21 ∷ []
 listed : List ℕ
 listed = 0x11 ∷ 0 ∷ 0x12 ∷ 1 ∷ 0x21 ∷ 0x41 ∷ 0 ∷ 1 ∷ []
 
+five : List ℕ
+five = 0x11 ∷ 0 ∷ times 4 (0x11 ∷ 0 ∷ 0x21 ∷ [])
+
 rows : List Row
 rows =
     row listed 32 32 0 0 (passed 1 1 2)
@@ -66,11 +69,11 @@ rows =
     ∷ row (0x11 ∷ 8 ∷ []) 32 32 0 0 (Refused 7 0)
     ∷ row (0x41 ∷ 0 ∷ []) 32 32 0 0 (Refused 6 0)
     ∷ row (0x41 ∷ 0 ∷ 0 ∷ []) 32 32 0 0 (Refused 8 0)
-    -- an overlong expression, limits, room and a clash come before what is read
+    -- an overlong expression, limits and room come before what is read, and a clash behind all that is
     ∷ row (times 4097 (0 ∷ [])) 0 32 3 1 (Refused 1 0)
     ∷ row [] 0 1025 3 1 (Refused 2 0)
     ∷ roomed 0 (row [] 1024 1024 3 1 (Refused 3 0))
-    ∷ row [] 32 32 (2 ^ 63) (2 ^ 63) (Refused 4 0)
+    ∷ row [] 32 32 1 1 (Refused 12 0)
     -- 1 alone; with a byte less the bytes are read
     ∷ row (times 4097 (0 ∷ [])) 32 32 0 0 (Refused 1 0)
     ∷ row (times 4096 (0 ∷ [])) 32 32 0 0 (Refused 5 0)
@@ -86,9 +89,17 @@ rows =
     ∷ roomed 9791 (row listed 32 32 0 0 (Refused 3 0))
     ∷ roomed 9792 (row listed 32 32 0 0 (passed 1 1 2))
     ∷ roomed 9455615 (row listed 1024 1024 0 0 (Refused 3 0))
-    -- 4 alone, and before 5
+    -- 4 alone; 3, 5, 11, 12 and 13 before it: the copy that clashes is absent (40 of five, bit 63), or another pin's is
     ∷ row listed 32 32 1 1 (Refused 4 0)
-    ∷ row (0x99 ∷ []) 32 32 1 1 (Refused 4 0)
+    ∷ row five 32 32 18 16 (Refused 4 0)
+    ∷ roomed 9791 (row listed 32 32 1 1 (Refused 3 0))
+    ∷ row (0x99 ∷ []) 32 32 1 1 (Refused 5 0)
+    ∷ row (opening ++ (0x21 ∷ [])) 32 32 1 1 (Refused 11 5)
+    ∷ row (opening ++ (0x11 ∷ 0 ∷ [])) 32 32 1 1 (Refused 12 7)
+    ∷ row five 32 32 (2 ^ 40) (2 ^ 40) (Refused 13 14)
+    ∷ row listed 32 32 (2 ^ 63) (2 ^ 63) (Refused 13 8)
+    ∷ row listed 32 32 3 1 (Refused 13 8)
+    ∷ row listed 32 32 1 3 (Refused 13 8)
     -- 5 to 8 by a later command: bytes beside those that are commands; one operand missing, two; an operand of 8, first and second; equal ones
     ∷ row (opening ++ (0 ∷ [])) 32 32 0 0 (Refused 5 5)
     ∷ row (opening ++ (0x10 ∷ [])) 32 32 0 0 (Refused 5 5)
@@ -134,6 +145,6 @@ right : Row → Bool
 right r = same (check labelCount (r .asked)) (r .says)
 
 examples : every right rows ≡ true
-unfolding every right rows row passed roomed times opening listed same check checks overlongTest limitsTest crampedTest clashTest faultTest unjoinedTest absentTest isLimit countsOf faultPlace faultNumber isFaulty firstOf reading readFrom behind
+unfolding every right rows row passed roomed times opening listed five same check checks overlongTest limitsTest crampedTest clashTest faultTest unjoinedTest absentTest isLimit countsOf faultPlace faultNumber isFaulty firstOf reading readFrom behind
     countFault counted effect noCounts readAt readCommand commandOf operandCount isCommand twoOperands oneOperand
 examples = refl

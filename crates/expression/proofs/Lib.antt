@@ -4,5 +4,8 @@ pub mod Readings
 pub mod Checks
 pub mod Places
 pub mod Accepted
+pub mod Numbers
+pub mod Moving
+pub mod Clashes
 pub mod Remaining
 pub mod Examples

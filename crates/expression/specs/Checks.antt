@@ -85,10 +85,10 @@ checks a r =
     overlongTest (a .bytes)
     ∷ limitsTest (a .pairLimit) (a .subsetLimit)
     ∷ crampedTest (a .pairLimit) (a .subsetLimit) (a .room)
-    ∷ clashTest (a .assumedTrue) (a .assumedFalse)
     ∷ faultTest r
     ∷ unjoinedTest (a .bytes) r
     ∷ absentTest (a .bytes) (countsOf r .atoms) (a .assumedTrue) (a .assumedFalse)
+    ∷ clashTest (a .assumedTrue) (a .assumedFalse)
     ∷ []
 
 unfoldable pub check : ℕ → Request → Checked

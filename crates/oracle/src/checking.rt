@@ -1,4 +1,4 @@
-// The checks that come before any table: 1 to 14 in 01's order.
+// The checks that come before any table: 1 to 3, 5 to 13, then 4 (02, Item 4), then 14.
 ghost use Prim.Native.Nat.{_≤_};
 use expression::limits::BYTE_LIMIT;
 use expression::limits::TABLE_LIMIT;
@@ -31,19 +31,28 @@ pub fn check(s: &[u8], q: Request) -> Policy {
     ended(s, p, q)
 }
 
-// 12 to 14.
+// 12, 13, 4 and 14.
 fn ended(s: &[u8], p: Policy, q: Request) -> Policy {
-    let mut next = p;
-    next.place = s.len();
-    next.fault = end_fault(p, q);
-    if next.fault != 0 {
-        return next;
+    let fault = end_fault(p, q);
+    if fault != 0 {
+        return refused_at(p, fault, s.len());
+    }
+    if q.assumed_true & q.assumed_false != 0 {
+        return refused_at(p, CLASH, 0);
+    }
+    if p.atoms.count > 7 || p.rules.count > 8 {
+        return refused(p, LARGE);
     }
     if is_start(s, q) {
         return p;
     }
-    next.place = q.asked;
-    refused(next, OFFSET)
+    refused_at(p, OFFSET, q.asked)
+}
+
+fn refused_at(p: Policy, fault: u64, place: usize) -> Policy {
+    let mut next = refused(p, fault);
+    next.place = place;
+    next
 }
 
 // 12 and 13; 0 where both pass.
@@ -53,9 +62,6 @@ fn end_fault(p: Policy, q: Request) -> u64 {
     }
     if has_absent(q.assumed_true | q.assumed_false, p.atoms.count) {
         return ABSENT;
-    }
-    if p.atoms.count > 7 || p.rules.count > 8 {
-        return LARGE;
     }
     0
 }
@@ -71,7 +77,7 @@ fn is_start(s: &[u8], q: Request) -> bool {
     read_to(s, q.asked).at == q.asked
 }
 
-// 1 to 4; 0 where all pass.
+// 1 to 3; 0 where all pass.
 fn request_fault(bytes: usize, q: Request) -> u64 {
     if bytes > BYTE_LIMIT {
         return OVERLONG;
@@ -84,9 +90,6 @@ fn request_fault(bytes: usize, q: Request) -> u64 {
     }
     if q.room < workspace_need(q) as u64 {
         return CRAMPED;
-    }
-    if q.assumed_true & q.assumed_false != 0 {
-        return CLASH;
     }
     0
 }

@@ -11,10 +11,11 @@ use Rattle.expression.specs.declared.Checked.the-variants.{Passed, Refused as S
 use Rattle.expression.specs.Refusals.{absent, offset, subsetsFull, plansFull, reportShort}
 use Rattle.expression.specs.Reading.{reading}
 use Rattle.expression.specs.Checks.{Request, check}
+use Rattle.expression.proofs.Numbers.{check-number}
 use Rattle.tables.specs.Algebras.{tables}
 use Rattle.tables.specs.Definitions.{triples}
 use Rattle.decisions.specs.Decisions.{assumed, commandsIn, plainFault, Walked, stopped, walked, walk}
-use Rattle.decisions.proofs.Numbers.{check-number, plain-stops}
+use Rattle.decisions.proofs.Numbers.{plain-stops}
 use Rattle.walks.specs.Walks.{before}
 use Rattle.reporting.specs.declared.Report.the-variants.{Written, Refused}
 use Rattle.reporting.specs.Reporting.{startsAt, Asked, refusedAt, tableAt, newestIn, askedTable, reportAnswer}

@@ -249,18 +249,18 @@ fn try_request(s: &[u8], q: Request) -> u64 {
     try_lent(s, q, &words, expected)
 }
 
-// ---- the sheets to try of 01 that are not starred
+// ---- the sheets to try of 01 that are not starred, and the answers that Item 4 of 02 names
 
-// 1 where both refuse as listed. The copies of one mask are pinned both in and out.
-fn listed(s: &[u8], pins: u64, number: u64, place: usize) -> u64
+// 1 where both refuse as listed.
+fn listed(s: &[u8], pins_in: u64, pins_out: u64, number: u64, place: usize) -> u64
     ensures { λ r. ⌜ r ≤ 1 ⌝ }
 {
     let q = Request {
         pair_limit: 32,
         subset_limit: 32,
         room: ROOM as u64,
-        assumed_true: pins,
-        assumed_false: pins,
+        assumed_true: pins_in,
+        assumed_false: pins_out,
         is_plain: false,
         is_report: false,
         asked: 0,
@@ -278,11 +278,21 @@ fn listed(s: &[u8], pins: u64, number: u64, place: usize) -> u64
 
 fn try_listed() {
     let nine = b"\x11\x00\x11\x00\x11\x00\x11\x00\x11\x00\x11\x00\x11\x00\x11\x00\x11\x00";
-    let a = listed(nine, 0, 10, 16);
-    let b = listed(b"\x11\x00\x11\x01", 0, 12, 4);
-    let c = listed(b"", 1, 4, 0);
-    print_number(a + b + c);
-    io::write_all(STDOUT_FILENO, b"of 3 listed sheets\n");
+    let a = listed(nine, 0, 0, 10, 16);
+    let b = listed(b"\x11\x00\x11\x01", 0, 0, 12, 4);
+    print_number(a + b);
+    io::write_all(STDOUT_FILENO, b"of 2 listed sheets\n");
+}
+
+// On no copy, on five: a clash on copy 40, one beside a pin on it, and one alone.
+fn try_clashes() {
+    let five = b"\x11\x00\x11\x00\x21\x11\x00\x21\x11\x00\x21\x11\x00\x21";
+    let a = listed(b"", 1, 1, 12, 0);
+    let b = listed(five, 0x10000000000, 0x10000000000, 13, 14);
+    let c = listed(five, 0x10000000001, 1, 13, 14);
+    let d = listed(five, 0x11, 0x10, 4, 0);
+    print_number(a + b + c + d);
+    io::write_all(STDOUT_FILENO, b"of 4 clashes\n");
 }
 
 // ---- refusals that the random sheets are too small for
@@ -293,7 +303,7 @@ fn try_long() -> u64
 {
     let long = [0u8; 4097];
     let most = [0u8; 4096];
-    listed(&long, 0, 1, 0) + listed(&most, 0, 5, 0)
+    listed(&long, 0, 0, 1, 0) + listed(&most, 0, 0, 5, 0)
 }
 
 // Leaves of one kind, each joined at once: a leaf stands at offset 0, and then at every third from 2 on.
@@ -325,7 +335,7 @@ fn refused_at(leaf: u8, place: usize, bytes: &mut [u8]) -> u64
     ensures { λ r. ⌜ r ≤ 1 ⌝ }
 {
     put_leaves(leaf, bytes);
-    listed(bytes, 0, 9, place)
+    listed(bytes, 0, 0, 9, place)
 }
 
 // 1 where the leaf at an offset is one too many.
@@ -396,6 +406,7 @@ fn print_all(counts: &[u64; 64]) {
 fn main() {
     let mut counts = [0u64; 64];
     try_listed();
+    try_clashes();
     try_large();
     try_seeds(TRIALS, &mut counts);
     print_all(&counts);
