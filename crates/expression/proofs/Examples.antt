@@ -89,7 +89,7 @@ rows =
     ∷ roomed 9791 (row listed 32 32 0 0 (Refused 3 0))
     ∷ roomed 9792 (row listed 32 32 0 0 (passed 1 1 2))
     ∷ roomed 9455615 (row listed 1024 1024 0 0 (Refused 3 0))
-    -- 4 alone; 3, 5, 11, 12 and 13 before it: the copy that clashes is absent (40 of five, bit 63), or another pin's is
+    -- 4 alone; 3, 5, 11, 12 and 13 before it: the atom that clashes is absent (40 of five, bit 63), or another that is assumed
     ∷ row listed 32 32 1 1 (Refused 4 0)
     ∷ row five 32 32 18 16 (Refused 4 0)
     ∷ roomed 9791 (row listed 32 32 1 1 (Refused 3 0))
