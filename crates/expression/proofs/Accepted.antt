@@ -25,7 +25,7 @@ pub record Accepted (K : ℕ) (a : Request) (n : Counts) : Type 0 where
   pub trueThere : a .assumedTrue < 2 ^ n .atoms
   pub falseThere : a .assumedFalse < 2 ^ n .atoms
 
--- what passes all checks; their order is taken apart here alone
+-- what passes all checks passes each, by its place in the list
 pub check-accepted : (K : ℕ) (a : Request) (n : Counts) → check K a ≡ Passed n → Accepted K a n
 unfolding check checks checkBytes overlongTest limitsTest crampedTest clashTest absentTest
 check-accepted K a n h =

@@ -1,14 +1,14 @@
 -- Laws of the checks: the walk of `checkBytes` (its start, one step, its ways out), and what the tests after it may use. Assumes nothing.
 use mathlib.Core.Path.{_≡_, refl, sym, ap, _∙_, subst}
-use mathlib.Core.Bool.{Bool, true, false, cond, not, _&&_}
-use mathlib.Core.List.{List, [], _∷_}
+use mathlib.Core.Bool.{Bool, true, false, true≢false, cond, _&&_}
+use mathlib.Core.List.{List, [], _∷_, _++_}
 use Prim.Native.Nat.{ℕ, zero, suc, _+_, _/_, _^_, _≤_, _<_}
 use native.Mathlib.Nat.{mul-le-mul, div-eq-of-lt, div-lt-iff-lt-mul}
 use native.Mathlib.Omega.{arith}
 use lib.Dec.{eqb, ltb}
 use lib.ListN.{length}
 use lib.Pow.{pow-pos}
-use borrow.Author.Tests.{eq-eqb, ne-eqb, eqb-true, ltb-true, ltb-false}
+use borrow.Author.Tests.{eq-eqb, ne-eqb, eqb-true, ltb-true, ltb-false, not-false}
 use Rattle.lists.specs.Lists.{All}
 use Rattle.lists.proofs.Members.{and-both}
 use Rattle.expression.specs.declared.Command.{Command}
@@ -105,19 +105,39 @@ passed-all z n (t ∷ ts) h = step (t .refuses) refl (λ k. passed-all z n ts k)
     step true e g k = let q : _≡_ {A = ℕ} 0 1 = cc in absurd (omega arith)
     step false e g k = let r = g k in ((e, r .0), r .1)
 
+-- the first of them that refuses, and x where none does
+unfoldable pub firstElse : Checked → List Test → Checked
+firstElse x [] = x
+firstElse x (t ∷ ts) = cond (t .refuses) (Refused (t .number) (t .place)) (firstElse x ts)
+
+pub first-append : (z : Counts) (xs ys : List Test) → firstOf z (xs ++ ys) ≡ firstElse (firstOf z ys) xs
+unfolding firstOf firstElse
+first-append z [] ys = refl
+first-append z (t ∷ xs) ys = ap (cond (t .refuses) (Refused (t .number) (t .place))) (first-append z xs ys)
+
+pub else-pass : (x : Checked) (ts : List Test) → Pass ts → firstElse x ts ≡ x
+unfolding firstElse
+else-pass x [] h = refl
+else-pass x (t ∷ ts) h = rw (h .0) (else-pass x ts (h .1))
+
+pub else-refuse : (z : Counts) (x : Checked) (ts : List Test) {n at : ℕ} → firstOf z ts ≡ Refused n at → firstElse x ts ≡ Refused n at
+unfolding firstOf firstElse
+else-refuse z x [] h = let q : _≡_ {A = ℕ} 0 1 = cc in absurd (omega arith)
+else-refuse z x (t ∷ ts) {n} {at} h = step (t .refuses) (λ k. else-refuse z x ts k) h
+  where
+    step : (b : Bool) → (firstOf z ts ≡ Refused n at → firstElse x ts ≡ Refused n at) → cond b (Refused (t .number) (t .place)) (firstOf z ts) ≡ Refused n at
+        → cond b (Refused (t .number) (t .place)) (firstElse x ts) ≡ Refused n at
+    step true g k = k
+    step false g k = g k
+
 -- 5 to 12 refuse, whatever tests come behind
 pub bytes-refuse : (K : ℕ) (s : List ℕ) (ts : List Test) (f at : ℕ) → checkBytes K s ≡ Refused f at
     → Refused f at ≡ firstOf (countsOf (reading K s)) (faultTest (reading K s) ∷ unjoinedTest s (reading K s) ∷ ts)
-unfolding checkBytes firstOf faultTest unjoinedTest isFaulty faultNumber faultPlace countsOf
-bytes-refuse K s ts f at h = reads (reading K s) h
-  where
-    joins : (b : Bool) (z : Counts) (x : Checked) → cond b (Refused unjoined (length s)) (Passed z) ≡ Refused f at → Refused f at ≡ cond b (Refused unjoined (length s)) x
-    joins true z x h = sym h
-    joins false z x h = let q : _≡_ {A = ℕ} 0 1 = cc in absurd (omega arith)
-
-    reads : (r : Reading) → firstOf (countsOf r) (faultTest r ∷ unjoinedTest s r ∷ []) ≡ Refused f at → Refused f at ≡ firstOf (countsOf r) (faultTest r ∷ unjoinedTest s r ∷ ts)
-    reads (faulty g p) h = sym h
-    reads (whole cs z) h = joins (not (eqb (z .depth) 1)) z (firstOf z ts) h
+unfolding checkBytes
+bytes-refuse K s ts f at h =
+    let r = reading K s in
+    let xs = faultTest r ∷ unjoinedTest s r ∷ [] in
+    sym (first-append (countsOf r) xs ts ∙ else-refuse (countsOf r) (firstOf (countsOf r) ts) xs h)
 
 -- 5 to 12 pass: the whole expression was read, and leaves one operand
 pub record Joined (K : ℕ) (s : List ℕ) (n : Counts) : Type 0 where
@@ -127,25 +147,24 @@ pub record Joined (K : ℕ) (s : List ℕ) (n : Counts) : Type 0 where
   pub limited : Limited n
 
 pub bytes-joined : (K : ℕ) (s : List ℕ) (n : Counts) → checkBytes K s ≡ Passed n → Joined K s n
-unfolding checkBytes firstOf faultTest unjoinedTest isFaulty faultNumber faultPlace countsOf
-bytes-joined K s n h = reads (reading K s) refl h
+unfolding checkBytes faultTest unjoinedTest isFaulty countsOf
+bytes-joined K s n h = let ((sound, (one, none)), e) = passed-all (countsOf (reading K s)) n (faultTest (reading K s) ∷ unjoinedTest s (reading K s) ∷ []) h in reads (reading K s) refl sound (eqb-true _ 1 (not-false _ one)) e
   where
-    joins : (b : Bool) (z : Counts) → eqb (z .depth) 1 ≡ b → cond (not b) (Refused unjoined (length s)) (Passed z) ≡ Passed n → (z ≡ n) × (z .depth ≡ 1)
-    joins true z e h = (cc, eqb-true (z .depth) 1 e)
-    joins false z e h = let q : _≡_ {A = ℕ} 0 1 = cc in absurd (omega arith)
-
-    reads : (r : Reading) → reading K s ≡ r → firstOf (countsOf r) (faultTest r ∷ unjoinedTest s r ∷ []) ≡ Passed n → Joined K s n
-    reads (faulty g p) e h = let q : _≡_ {A = ℕ} 0 1 = cc in absurd (omega arith)
-    reads (whole cs z) e h =
-        let j = joins (eqb (z .depth) 1) z refl h in
-        let w = e ∙ ap (whole cs) (j .0) in
-        record { placed = cs; read = w; joined = sym (ap (λ x. x .depth) (j .0)) ∙ j .1; limited = reading-limited K s cs n w }
+    reads : (r : Reading) → reading K s ≡ r → isFaulty r ≡ false → countsOf r .depth ≡ 1 → countsOf r ≡ n → Joined K s n
+    reads (faulty g p) e f j q = absurd (true≢false f)
+    reads (whole cs z) e f j q =
+        let w = e ∙ ap (whole cs) q in
+        record { placed = cs; read = w; joined = sym (ap (λ (x : Counts). x .depth) q) ∙ j; limited = reading-limited K s cs n w }
 
 -- then the tests behind decide, on the counts
 pub bytes-pass : (K : ℕ) (s : List ℕ) (ts : Counts → List Test) (n : Counts) (x : Checked) → checkBytes K s ≡ Passed n → x ≡ firstOf n (ts n)
     → x ≡ firstOf (countsOf (reading K s)) (faultTest (reading K s) ∷ unjoinedTest s (reading K s) ∷ ts (countsOf (reading K s)))
-unfolding firstOf faultTest unjoinedTest isFaulty faultNumber faultPlace countsOf
-bytes-pass K s ts n x h e = let j = bytes-joined K s n h in rw (j .read) (simp (eq-eqb (n .depth) 1 (j .joined)) e)
+unfolding checkBytes
+bytes-pass K s ts n x h e =
+    let r = reading K s in
+    let xs = faultTest r ∷ unjoinedTest s r ∷ [] in
+    let (pass, q) = passed-all (countsOf r) n xs h in
+    e ∙ ap (λ (m : Counts). firstOf m (ts m)) (sym q) ∙ sym (first-append (countsOf r) xs (ts (countsOf r)) ∙ else-pass (firstOf (countsOf r) (ts (countsOf r))) xs pass)
 
 -- ---- tests of numbers
 

@@ -13,9 +13,9 @@ use Rattle.expression.specs.declared.Checked.the-variants.{Passed, Refus
 use Rattle.expression.specs.Refusals.{clash}
 use Rattle.expression.specs.Reading.{Reading, reading}
 use Rattle.expression.specs.Checks.{Request, Test, firstOf, countsOf, overlongTest, limitsTest, crampedTest, clashTest, faultTest, unjoinedTest, absentTest, checks, check}
-use Rattle.expression.proofs.Checks.{Pass, passed-all}
+use Rattle.expression.proofs.Checks.{Pass, passed-all, firstElse}
 use Rattle.expression.proofs.Numbers.{reading-number}
-use Rattle.expression.proofs.Moving.{firstElse, else-only, moved-passes, moved-behind, refused-before, refused-after}
+use Rattle.expression.proofs.Moving.{else-only, moved-passes, moved-behind, refused-before, refused-after}
 
 -- the list of 01
 pub baseChecks : Request → Reading → List Test

@@ -3,38 +3,12 @@ use mathlib.Core.Path.{_≡_, refl, sym, ap, _∙_}
 use mathlib.Core.Bool.{Bool, true, false, cond}
 use mathlib.Core.List.{List, [], _∷_, _++_}
 use Prim.Native.Nat.{ℕ}
-use native.Mathlib.Omega.{arith}
 use Rattle.lists.specs.Lists.{All}
 use Rattle.expression.specs.declared.Counts.{Counts}
 use Rattle.expression.specs.declared.Checked.{Checked}
 use Rattle.expression.specs.declared.Checked.the-variants.{Refused}
 use Rattle.expression.specs.Checks.{Test, firstOf}
-use Rattle.expression.proofs.Checks.{Pass}
-
--- the first of them that refuses, and x where none does
-unfoldable pub firstElse : Checked → List Test → Checked
-firstElse x [] = x
-firstElse x (t ∷ ts) = cond (t .refuses) (Refused (t .number) (t .place)) (firstElse x ts)
-
-first-append : (z : Counts) (xs ys : List Test) → firstOf z (xs ++ ys) ≡ firstElse (firstOf z ys) xs
-unfolding firstOf firstElse
-first-append z [] ys = refl
-first-append z (t ∷ xs) ys = ap (cond (t .refuses) (Refused (t .number) (t .place))) (first-append z xs ys)
-
-else-pass : (x : Checked) (ts : List Test) → Pass ts → firstElse x ts ≡ x
-unfolding firstElse
-else-pass x [] h = refl
-else-pass x (t ∷ ts) h = rw (h .0) (else-pass x ts (h .1))
-
-else-refuse : (z : Counts) (x : Checked) (ts : List Test) {n at : ℕ} → firstOf z ts ≡ Refused n at → firstElse x ts ≡ Refused n at
-unfolding firstOf firstElse
-else-refuse z x [] h = let q : _≡_ {A = ℕ} 0 1 = cc in absurd (omega arith)
-else-refuse z x (t ∷ ts) {n} {at} h = step (t .refuses) (λ k. else-refuse z x ts k) h
-  where
-    step : (b : Bool) → (firstOf z ts ≡ Refused n at → firstElse x ts ≡ Refused n at) → cond b (Refused (t .number) (t .place)) (firstOf z ts) ≡ Refused n at
-        → cond b (Refused (t .number) (t .place)) (firstElse x ts) ≡ Refused n at
-    step true g k = k
-    step false g k = g k
+use Rattle.expression.proofs.Checks.{Pass, firstElse, first-append, else-pass, else-refuse}
 
 -- where none of them has the number of x, x is the answer only if none refuses
 pub else-only : (n at : ℕ) (ts : List Test) → All (λ t. t .refuses ≡ true → t .number ≡ n → ⊥) ts → firstElse (Refused n at) ts ≡ Refused n at → Pass ts

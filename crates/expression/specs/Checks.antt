@@ -1,4 +1,4 @@
--- The checks before any table (01, Outcomes): ONE list, in the order in which they are tested. Assumes nothing.
+-- The checks before any table (01, Outcomes; 02, Item 4): ONE list, in the order in which they are tested. Assumes nothing.
 use mathlib.Core.Bool.{Bool, true, false, cond, not, _&&_}
 use mathlib.Core.List.{List, [], _∷_}
 use Prim.Native.Nat.{ℕ, _+_, _^_}
@@ -78,7 +78,7 @@ unjoinedTest s r = record { refuses = not (eqb (countsOf r .depth) 1); number = 
 unfoldable pub absentTest : List ℕ → ℕ → ℕ → ℕ → Test
 absentTest s n i o = record { refuses = not (ltb i (2 ^ n) && ltb o (2 ^ n)); number = absent; place = length s }
 
--- ---- in their order
+-- ---- in their order: 1 to 3, 5 to 13, then 4 (02, Item 4: directly after 13)
 
 unfoldable pub checks : Request → Reading → List Test
 checks a r =
