@@ -112,8 +112,11 @@ static int check_agreement(const question *q, const policy *p)
     uint64_t plan, other;
     int said = by_archive(q, &plan);
     if (said < 0) disagree(q, "the archive refuses");
-    for (unsigned way = REFERENCE; way < WAYS; way++)
-        if (is_there(way) && ways[way](q, &other) != said) disagree(q, way == REFERENCE ? "the hand-written C" : "clingo");
+    for (unsigned way = REFERENCE; way < WAYS; way++) {
+        if (!is_there(way)) continue;
+        if (ways[way](q, &other) != said) disagree(q, way == REFERENCE ? "the hand-written C" : "clingo");
+        if (way == REFERENCE && other != plan) disagree(q, "the hand-written C shows another plan");
+    }
     if (said == 1) check_plan(q, plan, p);
     return said;
 }

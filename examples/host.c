@@ -125,12 +125,12 @@ static void print_question(const sheet_file *f)
     printf("\n");
 }
 
-// A verdict shows no plan, so a yes asks the decision for one.
+// A verdict shows no plan, so a yes asks the decision for it.
 static void print_plan(const sheet_file *f, uint32_t *workspace, size_t words)
 {
     uint64_t answer[3];
     nuntennis_grounded(f->sheet, f->sheet_len, f->plan_limit, f->subset_limit, f->pins_in, f->pins_out, workspace, words, answer, 3);
-    print_copies("yes: a grounded plan keeps these copies:", answer[1]);
+    print_copies("yes: the first grounded plan keeps these copies:", answer[1]);
     printf("\n");
 }
 

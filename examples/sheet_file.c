@@ -84,16 +84,10 @@ static const char *read_limits(sheet_file *f, const char *text)
     return NULL;
 }
 
-static const char *read_answer(sheet_file *f, const char *text)
+static const char *read_answer(uint64_t *answer, unsigned *count, const char *text)
 {
-    if (f->answer_count == SHEET_FILE_ANSWERS) return "one answer too many";
-    return read_numbers(text, f->answers[f->answer_count++], 3, "an answer is three numbers");
-}
-
-static const char *read_plain(sheet_file *f, const char *text)
-{
-    if (f->plain_count++) return "a second plain answer";
-    return read_numbers(text, f->plain, 3, "an answer is three numbers");
+    if ((*count)++) return "a second answer of its kind";
+    return read_numbers(text, answer, 3, "an answer is three numbers");
 }
 
 // What follows a word at the start of a line, or NULL.
@@ -110,8 +104,8 @@ static const char *read_setting(sheet_file *f, const char *line)
     if ((rest = after(line, "limits"))) return read_limits(f, rest);
     if ((rest = after(line, "pins in"))) return sheet_file_copies(rest, &f->pins_in);
     if ((rest = after(line, "pins out"))) return sheet_file_copies(rest, &f->pins_out);
-    if ((rest = after(line, "answer"))) return read_answer(f, rest);
-    if ((rest = after(line, "plain"))) return read_plain(f, rest);
+    if ((rest = after(line, "answer"))) return read_answer(f->answer, &f->answer_count, rest);
+    if ((rest = after(line, "plain"))) return read_answer(f->plain, &f->plain_count, rest);
     return "no such setting (limits, pins in, pins out, answer, plain)";
 }
 

@@ -6,15 +6,13 @@
 //     #: limits 32 32
 //     #: pins in 0 2
 //     #: pins out 1
-//     #: answer 1 5 0      the three words of the grounded decision; several lines where several plans may be shown
+//     #: answer 1 5 0      the three words of the grounded decision
 //     #: plain 1 0 0       the three words of the plain decision
 #ifndef SHEET_FILE_H
 #define SHEET_FILE_H
 
 #include <stddef.h>
 #include <stdint.h>
-
-enum { SHEET_FILE_ANSWERS = 8 };
 
 // Comments make a text much longer than its sheet; a file of so many bytes is refused, as it may have no end.
 #define SHEET_FILE_TOO_LONG ((size_t)1 << 26)
@@ -37,10 +35,8 @@ typedef struct {
     uint8_t *sheet;        // all of it, however long
     size_t sheet_len;
     uint64_t plan_limit, subset_limit, pins_in, pins_out;
-    uint64_t answers[SHEET_FILE_ANSWERS][3];
-    unsigned answer_count;
-    uint64_t plain[3];
-    unsigned plain_count;
+    uint64_t answer[3], plain[3];
+    unsigned answer_count, plain_count;
 } sheet_file;
 
 // Reads the file, or standard input where the path is "-". If it is not whole, the reason is on standard error.

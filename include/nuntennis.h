@@ -65,15 +65,14 @@
  *
  *   answer[0]  kind       answer[1]  value                                answer[2]  place
  *   0  no                 0                                               0
- *   1  yes                grounded: the plan, bit c is copy c; else 0     0
+ *   1  yes                grounded: first plan, bit c is copy c; else 0   0
  *   1  reported           entries written                                 words written
  *   2  refused            the refusal's number                            the refusal's place
  *   3  moved              0                                               0
  *   4  ended              0                                               0
  *
  * Decisions answer 0, 1 or 2, reports 1 or 2, start 2 or 3, step 2, 3 or 4, and verdict 0, 1 or 2, where a yes shows no plan: its value
- * is 0. Any grounded plan that obeys the pins may be the plan of a decision's yes; no bit beyond the sheet's copies is set in it. Nothing
- * else is left open.
+ * is 0. The plan of a grounded decision's yes is the first one (see DECISIONS). Nothing is left open.
  *
  *
  * REFUSALS
@@ -228,8 +227,11 @@ enum {
 /*
  * DECISIONS
  *
- * nuntennis_grounded: is there a grounded plan that obeys the pins? A yes shows one. Pins bind the plan, never the smaller plans that
- * it is compared with. No, exactly when there is none.
+ * nuntennis_grounded: is there a grounded plan that obeys the pins? Pins bind the plan, never the smaller plans that it is compared
+ * with. No, exactly when there is none. A yes shows the first: copy 0 is left out if any grounded plan that obeys the pins leaves it out,
+ * then copy 1 by the same test among those still possible, and so on. So one policy with one set of pins has one plan, whatever limits
+ * it is decided under, and no bit beyond the sheet's copies is set in it. Finding it needs no wider limits, and so no other refusal, than
+ * the bare yes.
  *
  * nuntennis_plain: is there a plan that meets every rule and obeys the pins? It shows none. P limits the triples of a table; G only
  * counts for refusals 2 and 3.
@@ -306,7 +308,7 @@ uint64_t nuntennis_plain_report(const uint8_t *sheet, size_t sheet_len, size_t a
  *
  * Give each call the same sheet, limits and pins, and leave record and workspace alone in between. Then the workspace holds the tables
  * of the parts after each step, and the walk ends with the yes or no of nuntennis_grounded, or stays at the command where that gives 15
- * or 16 and answers the same refusal. The verdict shows no plan: call nuntennis_grounded for one.
+ * or 16 and answers the same refusal. The verdict shows no plan: call nuntennis_grounded for it.
  *
  * Between calls table t (t = 0 is the oldest part) begins at word t*P*(G+2) and has counts[t] pairs in report order. A pair takes G+2
  * words: Q, number of subsets, subsets, zeros. All other words of the first 9*P*(G+2) are zero.

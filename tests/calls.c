@@ -126,8 +126,7 @@ static bool is_zero(const uint32_t *words, size_t n)
 
 static void check_answer(call c, const oracle_request *r, const uint64_t *answer, oracle_answer want)
 {
-    bool is_plan = c == CALL_GROUNDED && want.kind == 1;
-    if (answer[0] == want.kind && (is_plan || answer[1] == want.value) && answer[2] == want.place) return;
+    if (answer[0] == want.kind && answer[1] == want.value && answer[2] == want.place) return;
     disagree(names[c], r, "answer %" PRIu64 " %" PRIu64 " %" PRIu64 ", expected %" PRIu64 " %" PRIu64 " %" PRIu64, answer[0], answer[1],
              answer[2], want.kind, want.value, want.place);
 }
@@ -159,7 +158,7 @@ static void check_untouched(call c, const oracle_request *r, uint64_t seed)
     if (!is_untouched(&report_room, 4 * r->report_len, 0, seed)) disagree(names[c], r, "a short answer slice, and a changed report");
 }
 
-uint64_t expect_call(call c, const oracle_request *r, oracle_answer want, const oracle_table *table)
+void expect_call(call c, const oracle_request *r, oracle_answer want, const oracle_table *table)
 {
     static uint64_t seed;
     seed += 1000003;
@@ -171,11 +170,10 @@ uint64_t expect_call(call c, const oracle_request *r, oracle_answer want, const 
     if (r->sheet_len > 0 && memcmp(b.sheet, r->sheet, r->sheet_len) != 0) disagree(names[c], r, "the sheet was changed");
     if (returned == 0) {
         check_untouched(c, r, seed);
-        return 0;
+        return;
     }
     check_answer(c, r, b.answer, want);
     if (!is_untouched(&answer_room, 8 * r->answer_len, 24, seed)) disagree(names[c], r, "an answer word past the third was changed");
     check_workspace(c, r, &b, want, seed);
     check_report(c, r, &b, table, seed);
-    return want.kind == 1 ? b.answer[1] : 0;
 }

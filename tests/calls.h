@@ -16,9 +16,9 @@ extern uint64_t case_number;
 
 void calls_begin(void);
 
-// Makes the call. The answer must be the one wanted, the plan of a yes apart, which is given back; all buffers must be as 01 says.
-// A wanted report is the table's words.
-uint64_t expect_call(call c, const oracle_request *r, oracle_answer want, const oracle_table *table);
+// Makes the call. The answer must be the one wanted, the plan of a yes included; all buffers must be as 01 says. A wanted report is the
+// table's words.
+void expect_call(call c, const oracle_request *r, oracle_answer want, const oracle_table *table);
 
 // The call that is running, NULL for none: named should it touch a page that it may not.
 void watch(const char *call, const oracle_request *r);

@@ -313,12 +313,33 @@ static oracle_answer fit_plain(const oracle_history *h, size_t n, uint64_t plan_
     return passed;
 }
 
-// Whether some interpretation that obeys the pins has the property.
-static bool has_any(const oracle_request *r, const policy *p, bool (*property)(const policy *, uint64_t))
+// Whether some plan that obeys the pins meets every rule.
+static bool has_model(const oracle_request *r, const policy *p)
 {
     for (uint64_t x = 0; x < (uint64_t)1 << p->atoms; x++)
-        if (policy_obeys(x, r->pins_in, r->pins_out) && property(p, x)) return true;
+        if (policy_obeys(x, r->pins_in, r->pins_out) && policy_is_model(p, x)) return true;
     return false;
+}
+
+// 02, Item 5: at the lowest copy where they differ x leaves it out.
+static bool comes_before(uint64_t x, uint64_t y)
+{
+    uint64_t differ = x ^ y;
+    return (y & differ & -differ) != 0;
+}
+
+// Of all grounded plans that obey the pins the one that comes before the others.
+static oracle_answer first_plan(const oracle_request *r, const policy *p)
+{
+    bool is_found = false;
+    uint64_t first = 0;
+    for (uint64_t x = 0; x < (uint64_t)1 << p->atoms; x++) {
+        if (is_found && !comes_before(x, first)) continue;
+        if (!policy_obeys(x, r->pins_in, r->pins_out) || !policy_is_answer_set(p, x)) continue;
+        is_found = true;
+        first = x;
+    }
+    return (oracle_answer){is_found, first, 0};
 }
 
 oracle_answer oracle_grounded(const oracle_request *r, const oracle_history *h)
@@ -327,7 +348,7 @@ oracle_answer oracle_grounded(const oracle_request *r, const oracle_history *h)
     if (a.kind == 2) return a;
     a = oracle_fit(h, h->steps, r->plan_limit, r->subset_limit);
     if (a.kind == 2) return a;
-    return (oracle_answer){has_any(r, &h->policy, policy_is_answer_set), 0, 0};
+    return first_plan(r, &h->policy);
 }
 
 oracle_answer oracle_plain(const oracle_request *r, const oracle_history *h)
@@ -336,12 +357,7 @@ oracle_answer oracle_plain(const oracle_request *r, const oracle_history *h)
     if (a.kind == 2) return a;
     a = fit_plain(h, h->steps, r->plan_limit);
     if (a.kind == 2) return a;
-    return (oracle_answer){has_any(r, &h->policy, policy_is_model), 0, 0};
-}
-
-bool oracle_shows(const oracle_request *r, const oracle_history *h, uint64_t plan)
-{
-    return plan >> h->policy.atoms == 0 && policy_obeys(plan, r->pins_in, r->pins_out) && policy_is_answer_set(&h->policy, plan);
+    return (oracle_answer){has_model(r, &h->policy), 0, 0};
 }
 
 static size_t step_at(const oracle_history *h, size_t offset)

@@ -57,10 +57,9 @@ void oracle_need(const oracle_history *history, uint64_t *plan_limit, uint64_t *
 // The first table that exceeds the limits, of the first n steps: kind 2, or kind 0.
 oracle_answer oracle_fit(const oracle_history *history, size_t n, uint64_t plan_limit, uint64_t subset_limit);
 
-// Kind, refusal and place; a yes has value 0, and oracle_shows says whether a plan may be shown with it.
+// All three words: a grounded yes shows the first plan, a plain one none.
 oracle_answer oracle_grounded(const oracle_request *request, const oracle_history *history);
 oracle_answer oracle_plain(const oracle_request *request, const oracle_history *history);
-bool oracle_shows(const oracle_request *request, const oracle_history *history, uint64_t plan);
 
 // The table reported, or NULL with a refusal.
 oracle_answer oracle_report(const oracle_request *request, const oracle_history *history, const oracle_table **table);

@@ -10,14 +10,13 @@
 typedef struct {
     const char *name, *hex;
     uint64_t plan_limit, subset_limit, pins_in, pins_out;
-    oracle_answer grounded;
-    uint64_t other_plan; // may be shown as well
-    oracle_answer plain;
+    oracle_answer grounded, plain;
 } trial;
 
 #define CIRCLE "11 00 11 01 21 12 02 21 12 03 21 41 00 02 42 01 02 41 01 03 42 00 03"
 #define LISTED "11 00 12 01 21 41 00 01"
 #define EITHER "11 00 11 00 21 12 01 21 41 00 01"
+#define THREE "11 00 11 00 21 11 00 21 12 01 21 41 00 01"
 #define FIVE "11 00 11 00 21 11 00 21 11 00 21 11 00 21"
 #define NINE "11 00 11 00 11 00 11 00 11 00 11 00 11 00 11 00 11 00"
 // Copy 0 bars three rules that tell copies 2 to 4 apart, so the plans without it have more subsets.
@@ -32,62 +31,68 @@ typedef struct {
 
 static const trial trials[] = {
     // 01, "Sheets to try", with the answer that 02, Item 4 gives to a clash with an empty sheet
-    {"the listed sheet", LISTED, 32, 32, 0, 0, YES(1), 1, YES(0)},
-    {"pin in on copy 1", LISTED, 32, 32, 2, 0, REFUSED(13, 8), 0, REFUSED(13, 8)},
-    {"pin out on copy 1", LISTED, 32, 32, 0, 2, REFUSED(13, 8), 0, REFUSED(13, 8)},
-    {"CIRCLE", CIRCLE, 32, 32, 0, 0, YES(0), 0, YES(0)},
-    {"CIRCLE, copy 0 pinned in", CIRCLE, 32, 32, 1, 0, NO, 0, YES(0)},
-    {"CIRCLE, copy 0 pinned in, the largest workspace", CIRCLE, 1024, 1024, 1, 0, NO, 0, YES(0)},
-    {"made unless kept", LISTED " 43 00 01", 32, 32, 0, 0, NO, 0, YES(0)},
-    {"either of two", EITHER, 32, 32, 0, 0, YES(1), 2, YES(0)},
-    {"both of two", EITHER, 32, 32, 3, 0, NO, 0, YES(0)},
-    {"a bare rule", "12 00", 32, 32, 0, 0, NO, 0, NO},
-    {"empty", "", 32, 32, 0, 0, REFUSED(12, 0), 0, REFUSED(12, 0)},
-    {"only a join", "21", 32, 32, 0, 0, REFUSED(11, 0), 0, REFUSED(11, 0)},
-    {"group 7", "11 07", 32, 32, 0, 0, YES(0), 0, YES(0)},
-    {"group 8", "11 08", 32, 32, 0, 0, REFUSED(7, 0), 0, REFUSED(7, 0)},
-    {"cut", "41 00", 32, 32, 0, 0, REFUSED(6, 0), 0, REFUSED(6, 0)},
-    {"same", "41 00 00", 32, 32, 0, 0, REFUSED(8, 0), 0, REFUSED(8, 0)},
-    {"P = 1", "11 00", 1, 32, 0, 0, REFUSED(16, 0), 0, REFUSED(16, 0)},
-    {"P = 1, pinned out", "11 00", 1, 32, 0, 1, YES(0), 0, YES(0)},
-    {"P = 3, G = 2", "11 00 11 00 21", 3, 2, 0, 0, YES(0), 0, YES(0)},
-    {"P = 2", "11 00 11 00 21", 2, 2, 0, 0, REFUSED(16, 4), 0, REFUSED(16, 4)},
-    {"P = 2, G = 32", "11 00 11 00 21", 2, 32, 0, 0, REFUSED(16, 4), 0, REFUSED(16, 4)},
-    {"P = 2, G = 1", "11 00 11 00 21", 2, 1, 0, 0, REFUSED(15, 4), 0, REFUSED(16, 4)},
-    {"P = 3, G = 1", "11 00 11 00 21", 3, 1, 0, 0, REFUSED(15, 4), 0, YES(0)},
-    {"P = 1024, G = 1", "11 00 11 00 21", 1024, 1, 0, 0, REFUSED(15, 4), 0, YES(0)},
-    {"nine parts", NINE, 32, 32, 0, 0, REFUSED(10, 16), 0, REFUSED(10, 16)},
-    {"two parts", "11 00 11 01", 32, 32, 0, 0, REFUSED(12, 4), 0, REFUSED(12, 4)},
-    {"clash, empty sheet", "", 32, 32, 1, 1, REFUSED(12, 0), 0, REFUSED(12, 0)},
+    {"the listed sheet", LISTED, 32, 32, 0, 0, YES(1), YES(0)},
+    {"pin in on copy 1", LISTED, 32, 32, 2, 0, REFUSED(13, 8), REFUSED(13, 8)},
+    {"pin out on copy 1", LISTED, 32, 32, 0, 2, REFUSED(13, 8), REFUSED(13, 8)},
+    {"CIRCLE", CIRCLE, 32, 32, 0, 0, YES(0), YES(0)},
+    {"CIRCLE, copy 0 pinned in", CIRCLE, 32, 32, 1, 0, NO, YES(0)},
+    {"CIRCLE, copy 0 pinned in, the largest workspace", CIRCLE, 1024, 1024, 1, 0, NO, YES(0)},
+    {"made unless kept", LISTED " 43 00 01", 32, 32, 0, 0, NO, YES(0)},
+    {"either of two", EITHER, 32, 32, 0, 0, YES(2), YES(0)},
+    {"both of two", EITHER, 32, 32, 3, 0, NO, YES(0)},
+    {"a bare rule", "12 00", 32, 32, 0, 0, NO, NO},
+    {"empty", "", 32, 32, 0, 0, REFUSED(12, 0), REFUSED(12, 0)},
+    {"only a join", "21", 32, 32, 0, 0, REFUSED(11, 0), REFUSED(11, 0)},
+    {"group 7", "11 07", 32, 32, 0, 0, YES(0), YES(0)},
+    {"group 8", "11 08", 32, 32, 0, 0, REFUSED(7, 0), REFUSED(7, 0)},
+    {"cut", "41 00", 32, 32, 0, 0, REFUSED(6, 0), REFUSED(6, 0)},
+    {"same", "41 00 00", 32, 32, 0, 0, REFUSED(8, 0), REFUSED(8, 0)},
+    {"P = 1", "11 00", 1, 32, 0, 0, REFUSED(16, 0), REFUSED(16, 0)},
+    {"P = 1, pinned out", "11 00", 1, 32, 0, 1, YES(0), YES(0)},
+    {"P = 3, G = 2", "11 00 11 00 21", 3, 2, 0, 0, YES(0), YES(0)},
+    {"P = 2", "11 00 11 00 21", 2, 2, 0, 0, REFUSED(16, 4), REFUSED(16, 4)},
+    {"P = 2, G = 32", "11 00 11 00 21", 2, 32, 0, 0, REFUSED(16, 4), REFUSED(16, 4)},
+    {"P = 2, G = 1", "11 00 11 00 21", 2, 1, 0, 0, REFUSED(15, 4), REFUSED(16, 4)},
+    {"P = 3, G = 1", "11 00 11 00 21", 3, 1, 0, 0, REFUSED(15, 4), YES(0)},
+    {"P = 1024, G = 1", "11 00 11 00 21", 1024, 1, 0, 0, REFUSED(15, 4), YES(0)},
+    {"nine parts", NINE, 32, 32, 0, 0, REFUSED(10, 16), REFUSED(10, 16)},
+    {"two parts", "11 00 11 01", 32, 32, 0, 0, REFUSED(12, 4), REFUSED(12, 4)},
+    {"clash, empty sheet", "", 32, 32, 1, 1, REFUSED(12, 0), REFUSED(12, 0)},
+    // 02, Item 5: the first plan, by the pins
+    {"either of two, copy 0 pinned in", EITHER, 32, 32, 1, 0, YES(1), YES(0)},
+    {"either of two, copy 1 pinned out", EITHER, 32, 32, 0, 2, YES(1), YES(0)},
+    {"one of three", THREE, 32, 32, 0, 0, YES(4), YES(0)},
+    {"one of three, copy 2 pinned out", THREE, 32, 32, 0, 4, YES(2), YES(0)},
+    {"one of three, copy 0 pinned in", THREE, 32, 32, 1, 0, YES(1), YES(0)},
     // the order of the checks
-    {"operands missing before a group", "41 08", 32, 32, 0, 0, REFUSED(6, 0), 0, REFUSED(6, 0)},
-    {"a group before same", "41 08 08", 32, 32, 0, 0, REFUSED(7, 0), 0, REFUSED(7, 0)},
-    {"a second group", "11 00 31 00 08", 32, 32, 0, 0, REFUSED(7, 2), 0, REFUSED(7, 2)},
-    {"same before bare", "31 03 03", 32, 32, 0, 0, REFUSED(8, 0), 0, REFUSED(8, 0)},
-    {"a link on nothing", "41 00 01", 32, 32, 0, 0, REFUSED(11, 0), 0, REFUSED(11, 0)},
-    {"a move on nothing", "31 00 01", 32, 32, 0, 0, REFUSED(11, 0), 0, REFUSED(11, 0)},
-    {"a join of one part", "11 00 21", 32, 32, 0, 0, REFUSED(11, 2), 0, REFUSED(11, 2)},
-    {"unknown byte", "11 00 51", 32, 32, 0, 0, REFUSED(5, 2), 0, REFUSED(5, 2)},
-    {"clash", LISTED, 32, 32, 1, 1, REFUSED(4, 0), 0, REFUSED(4, 0)},
-    {"clash on bit 63", LISTED, 32, 32, BIT63, BIT63, REFUSED(13, 8), 0, REFUSED(13, 8)},
-    {"clash on copy 40 of five", FIVE, 32, 32, COPY40, COPY40, REFUSED(13, 14), 0, REFUSED(13, 14)},
-    {"clash beside an absent copy pinned in", FIVE, 32, 32, COPY40 | 1, 1, REFUSED(13, 14), 0, REFUSED(13, 14)},
-    {"clash beside an absent copy pinned out", FIVE, 32, 32, 1, COPY40 | 1, REFUSED(13, 14), 0, REFUSED(13, 14)},
-    {"clash on the last of five", FIVE, 32, 32, 18, 16, REFUSED(4, 0), 0, REFUSED(4, 0)},
-    {"a faulty command before clash", "11 00 21", 32, 32, 1, 1, REFUSED(11, 2), 0, REFUSED(11, 2)},
-    {"unjoined before clash", "11 00 11 01", 32, 32, 1, 1, REFUSED(12, 4), 0, REFUSED(12, 4)},
-    {"pin on bit 63", LISTED, 32, 32, BIT63, 0, REFUSED(13, 8), 0, REFUSED(13, 8)},
-    {"unjoined before absent", "11 00 11 01", 32, 32, BIT63, 0, REFUSED(12, 4), 0, REFUSED(12, 4)},
-    {"limits before clash", "", 0, 32, 1, 1, REFUSED(2, 0), 0, REFUSED(2, 0)},
-    {"G over 1024", LISTED, 32, 1025, 0, 0, REFUSED(2, 0), 0, REFUSED(2, 0)},
-    {"P of 2^32 and 1", LISTED, ((uint64_t)1 << 32) + 1, 32, 0, 0, REFUSED(2, 0), 0, REFUSED(2, 0)},
-    {"the greatest G", LISTED, 32, UINT64_MAX, 0, 0, REFUSED(2, 0), 0, REFUSED(2, 0)},
-    {"15 past the P-th pair", "11 02 11 04 21", 3, 1, 0, 0, REFUSED(15, 4), 0, REFUSED(16, 4)},
+    {"operands missing before a group", "41 08", 32, 32, 0, 0, REFUSED(6, 0), REFUSED(6, 0)},
+    {"a group before same", "41 08 08", 32, 32, 0, 0, REFUSED(7, 0), REFUSED(7, 0)},
+    {"a second group", "11 00 31 00 08", 32, 32, 0, 0, REFUSED(7, 2), REFUSED(7, 2)},
+    {"same before bare", "31 03 03", 32, 32, 0, 0, REFUSED(8, 0), REFUSED(8, 0)},
+    {"a link on nothing", "41 00 01", 32, 32, 0, 0, REFUSED(11, 0), REFUSED(11, 0)},
+    {"a move on nothing", "31 00 01", 32, 32, 0, 0, REFUSED(11, 0), REFUSED(11, 0)},
+    {"a join of one part", "11 00 21", 32, 32, 0, 0, REFUSED(11, 2), REFUSED(11, 2)},
+    {"unknown byte", "11 00 51", 32, 32, 0, 0, REFUSED(5, 2), REFUSED(5, 2)},
+    {"clash", LISTED, 32, 32, 1, 1, REFUSED(4, 0), REFUSED(4, 0)},
+    {"clash on bit 63", LISTED, 32, 32, BIT63, BIT63, REFUSED(13, 8), REFUSED(13, 8)},
+    {"clash on copy 40 of five", FIVE, 32, 32, COPY40, COPY40, REFUSED(13, 14), REFUSED(13, 14)},
+    {"clash beside an absent copy pinned in", FIVE, 32, 32, COPY40 | 1, 1, REFUSED(13, 14), REFUSED(13, 14)},
+    {"clash beside an absent copy pinned out", FIVE, 32, 32, 1, COPY40 | 1, REFUSED(13, 14), REFUSED(13, 14)},
+    {"clash on the last of five", FIVE, 32, 32, 18, 16, REFUSED(4, 0), REFUSED(4, 0)},
+    {"a faulty command before clash", "11 00 21", 32, 32, 1, 1, REFUSED(11, 2), REFUSED(11, 2)},
+    {"unjoined before clash", "11 00 11 01", 32, 32, 1, 1, REFUSED(12, 4), REFUSED(12, 4)},
+    {"pin on bit 63", LISTED, 32, 32, BIT63, 0, REFUSED(13, 8), REFUSED(13, 8)},
+    {"unjoined before absent", "11 00 11 01", 32, 32, BIT63, 0, REFUSED(12, 4), REFUSED(12, 4)},
+    {"limits before clash", "", 0, 32, 1, 1, REFUSED(2, 0), REFUSED(2, 0)},
+    {"G over 1024", LISTED, 32, 1025, 0, 0, REFUSED(2, 0), REFUSED(2, 0)},
+    {"P of 2^32 and 1", LISTED, ((uint64_t)1 << 32) + 1, 32, 0, 0, REFUSED(2, 0), REFUSED(2, 0)},
+    {"the greatest G", LISTED, 32, UINT64_MAX, 0, 0, REFUSED(2, 0), REFUSED(2, 0)},
+    {"15 past the P-th pair", "11 02 11 04 21", 3, 1, 0, 0, REFUSED(15, 4), REFUSED(16, 4)},
     {"15 at the pair with the greatest Q, past the P-th", "11 00 11 01 21 12 02 21 42 00 02 42 01 02 11 03 21", 4, 3, 0, 0,
-     REFUSED(15, 16), 0, REFUSED(16, 16)},
-    {"15 at a pair of a plan with fewer copies, past the P-th", WIDER_WITHOUT, 4, 47, 28, 0, REFUSED(15, 55), 0, REFUSED(16, 55)},
-    {"that table under the least G", WIDER_WITHOUT, 16, 63, 28, 0, YES(28), 28, YES(0)},
-    {"16 in an older part", "11 00 11 01 21 11 02 21", 3, 32, 0, 0, REFUSED(16, 4), 0, REFUSED(16, 4)},
+     REFUSED(15, 16), REFUSED(16, 16)},
+    {"15 at a pair of a plan with fewer copies, past the P-th", WIDER_WITHOUT, 4, 47, 28, 0, REFUSED(15, 55), REFUSED(16, 55)},
+    {"that table under the least G", WIDER_WITHOUT, 16, 63, 28, 0, YES(28), YES(0)},
+    {"16 in an older part", "11 00 11 01 21 11 02 21", 3, 32, 0, 0, REFUSED(16, 4), REFUSED(16, 4)},
 };
 
 static size_t read_hex(const char *hex, uint8_t *bytes)
@@ -107,17 +112,14 @@ static bool is_equal(oracle_answer a, oracle_answer b)
     return a.kind == b.kind && a.value == b.value && a.place == b.place;
 }
 
-// The oracle is itself held to the answers of 01.
+// The oracle is itself held to the answers of 01 and 02.
 static void check_oracle(const oracle_request *r, const trial *t)
 {
     bool is_read = oracle_check(r).kind != 2;
     oracle_history h = {0, NULL, {0}};
     if (is_read) h = oracle_walk(r->sheet, r->sheet_len, r->pins_in, r->pins_out);
     oracle_answer grounded = oracle_grounded(r, &h), plain = oracle_plain(r, &h);
-    if (grounded.kind == 1) grounded.value = t->grounded.value;
     if (!is_equal(grounded, t->grounded) || !is_equal(plain, t->plain)) disagree("the oracle", r, "%s", t->name);
-    if (grounded.kind == 1 && !(oracle_shows(r, &h, t->grounded.value) && oracle_shows(r, &h, t->other_plan)))
-        disagree("the oracle", r, "%s: not a plan that may be shown", t->name);
     oracle_forget(&h);
 }
 
@@ -128,9 +130,7 @@ static void try_sheet(const trial *t)
     r.workspace_len = need_of(&r);
     case_name = t->name;
     check_oracle(&r, t);
-    uint64_t plan = expect_call(CALL_GROUNDED, &r, t->grounded, NULL);
-    if (t->grounded.kind == 1 && plan != t->grounded.value && plan != t->other_plan)
-        disagree("nuntennis_grounded", &r, "plan %" PRIu64 " shown", plan);
+    expect_call(CALL_GROUNDED, &r, t->grounded, NULL);
     expect_call(CALL_PLAIN, &r, t->plain, NULL);
 }
 

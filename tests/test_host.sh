@@ -50,7 +50,7 @@ echo "$listed" >listed.hex
 printf '\021\000\022\001\041\101\000\001' >listed.bin
 
 # ---- 0 yes, 1 no, 2 refused
-expect 0 'yes: a grounded plan keeps these copies: 0' "$host" listed.hex
+expect 0 'yes: the first grounded plan keeps these copies: 0' "$host" listed.hex
 expect 1 'no: no grounded plan obeys the pins; some plan' "$host" "$sheets/circle_ticked.hex"
 expect 1 'no plan that obeys them even meets every rule' "$host" "$sheets/unmet_rule.hex"
 expect 2 'refused: 7 group at byte 2' "$host" "$sheets/refused_group.hex"

@@ -36,16 +36,25 @@ static oracle_answer wanted(call c, const oracle_request *r)
     return (oracle_answer){answer[0], answer[1], answer[2]};
 }
 
-// With every copy pinned to the plan the answer is still yes.
-static bool is_grounded(const oracle_request *r, uint64_t plan)
+// The reference with the copies of a mask pinned as the plan has them.
+static bool is_yes(const oracle_request *r, uint64_t plan, uint64_t copies)
+{
+    oracle_request pinned = *r;
+    pinned.pins_in |= copies & plan;
+    pinned.pins_out |= copies & ~plan;
+    return wanted(CALL_GROUNDED, &pinned).kind == 1;
+}
+
+// 02, Item 5: yes with every copy pinned to the plan; and no copy of it can be left out, the lower ones being as they are.
+static bool is_first(const oracle_request *r, uint64_t plan)
 {
     policy p;
-    oracle_request pinned = *r;
     policy_build(&p, r->sheet, r->sheet_len);
     uint64_t all = ((uint64_t)1 << p.atoms) - 1;
-    pinned.pins_in = plan;
-    pinned.pins_out = all & ~plan;
-    return !(plan & ~all) && !(r->pins_in & ~plan) && !(r->pins_out & plan) && wanted(CALL_GROUNDED, &pinned).kind == 1;
+    if ((plan & ~all) || !is_yes(r, plan, all)) return false;
+    for (uint64_t copy = 1; copy & all; copy <<= 1)
+        if ((plan & copy) && is_yes(r, plan & ~copy, 2 * copy - 1)) return false;
+    return true;
 }
 
 static void try_call(call c, const oracle_request *r, tally *n)
@@ -53,8 +62,8 @@ static void try_call(call c, const oracle_request *r, tally *n)
     oracle_answer want = wanted(c, r);
     oracle_table table = {report, want.place, want.value, 0};
     bool has_report = c != CALL_GROUNDED && c != CALL_PLAIN && want.kind == 1;
-    uint64_t plan = expect_call(c, r, want, has_report ? &table : NULL);
-    if (c == CALL_GROUNDED && want.kind == 1 && !is_grounded(r, plan)) disagree("nuntennis_grounded", r, "the plan shown is not grounded");
+    expect_call(c, r, want, has_report ? &table : NULL);
+    if (c == CALL_GROUNDED && want.kind == 1 && !is_first(r, want.value)) disagree("the reference", r, "the plan shown is not the first");
     n->calls++;
     n->refused += want.kind == 2;
 }

@@ -94,9 +94,7 @@ static void random_lengths(random_source *s, oracle_request *r)
 static void try_decisions(const oracle_request *r, const oracle_history *h, tally *n)
 {
     oracle_answer grounded = oracle_grounded(r, h), plain = oracle_plain(r, h);
-    uint64_t plan = expect_call(CALL_GROUNDED, r, grounded, NULL);
-    if (r->answer_len >= 3 && grounded.kind == 1 && !oracle_shows(r, h, plan))
-        disagree("nuntennis_grounded", r, "plan %" PRIu64 " is not grounded or does not obey the pins", plan);
+    expect_call(CALL_GROUNDED, r, grounded, NULL);
     expect_call(CALL_PLAIN, r, plain, NULL);
     count(n, r, grounded, false);
     count(n, r, plain, false);

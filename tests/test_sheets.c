@@ -2,16 +2,8 @@
 #include "calls.h"
 #include "sheet_file.h"
 
-#include <inttypes.h>
 #include <stdio.h>
 #include <string.h>
-
-static bool is_expected(const sheet_file *f, uint64_t plan)
-{
-    for (unsigned k = 0; k < f->answer_count; k++)
-        if (f->answers[k][1] == plan) return true;
-    return false;
-}
 
 static bool try_file(const char *path)
 {
@@ -24,8 +16,7 @@ static bool try_file(const char *path)
     oracle_request r = {f.sheet, f.sheet_len, f.plan_limit, f.subset_limit, f.pins_in, f.pins_out, 0, 0, 0, 3};
     r.workspace_len = need_of(&r);
     case_name = path;
-    uint64_t plan = expect_call(CALL_GROUNDED, &r, (oracle_answer){f.answers[0][0], f.answers[0][1], f.answers[0][2]}, NULL);
-    if (f.answers[0][0] == 1 && !is_expected(&f, plan)) disagree("nuntennis_grounded", &r, "plan %" PRIu64 " shown", plan);
+    expect_call(CALL_GROUNDED, &r, (oracle_answer){f.answer[0], f.answer[1], f.answer[2]}, NULL);
     expect_call(CALL_PLAIN, &r, (oracle_answer){f.plain[0], f.plain[1], f.plain[2]}, NULL);
     sheet_file_free(&f);
     return true;

@@ -15,10 +15,10 @@ use Rattle.tables.specs.Definitions.{pairs, accepting}
 use Rattle.values.specs.Values.{lowered}
 use Rattle.values.specs.First.{firstWords}
 use Rattle.decisions.specs.Decisions.{assumed, newest}
-use Rattle.decisions.specs.Outcomes.{GroundedOutcome}
+use Rattle.decisions.specs.Outcomes.{groundedOutcome}
 use Rattle.decisions.proofs.Carried.{mapWalked, newest-map, valuedWalk, low-walk, grounded-refused}
 use Rattle.decisions.proofs.Words.{leastIn}
-use Rattle.decisions.proofs.Outcomes.{refused-outcome, stopped-outcome, yes-outcome, no-outcome}
+use Rattle.decisions.proofs.Outcomes.{grounded-outcome, stopped-outcome, yes-outcome, no-outcome}
 use Rattle.entries.specs.declared.Carry.the-variants.{First}
 use Rattle.entries.specs.Carries.{Entry}
 use Rattle.leaves.specs.declared.Tables.the-variants.{Pairs}
@@ -36,8 +36,8 @@ newest-low us = ap (leastIn labelCount) (newest-map lowered us)
 module _ (a : Request) where
   -- ---- a check refuses
 
-  pub refused-grounded : {n at : ℕ} → check labelCount a ≡ Stopped n at → GroundedOutcome labelCount a (Refused n at)
-  refused-grounded h = refused-outcome labelCount a (grounded-refused labelCount a h)
+  pub refused-grounded : {n at : ℕ} → check labelCount a ≡ Stopped n at → Refused n at ≡ groundedOutcome labelCount a
+  refused-grounded h = grounded-outcome labelCount a (grounded-refused labelCount a h)
 
   -- ---- all checks pass
 
@@ -47,7 +47,7 @@ module _ (a : Request) where
     unfolding assumed algebraOf
     pairs-walk = low-walk (pairs labelCount) firstWords (a .subsetLimit) labelCount a ∙ sym (ap (mapWalked lowered) (whole-walk a (accepted a passed .joined) Pairs First (a .subsetLimit + 2) (a .subsetLimit) refl))
 
-    pub grounded-decided : (o : Outcome) → Decides Pairs First (byMasks (a .assumedTrue) (a .assumedFalse)) (a .subsetLimit + 2) (a .pairLimit) (a .bytes) o → GroundedOutcome labelCount a (shownOutcome (z .atoms) o)
+    pub grounded-decided : (o : Outcome) → Decides Pairs First (byMasks (a .assumedTrue) (a .assumedFalse)) (a .subsetLimit + 2) (a .pairLimit) (a .bytes) o → shownOutcome (z .atoms) o ≡ groundedOutcome labelCount a
     unfolding mapWalked
     grounded-decided (Yes v) (us, e, l) = yes-outcome labelCount a passed (pairs-walk ∙ ap (mapWalked lowered) e) v (newest-low us ∙ l)
     grounded-decided No (us, e, l) = no-outcome labelCount a passed (pairs-walk ∙ ap (mapWalked lowered) e) (newest-low us ∙ l)

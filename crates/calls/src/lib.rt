@@ -6,12 +6,12 @@ use expression::limits::AREAS;
 ghost use mathlib.Core.Path.{_≡_};
 ghost use lib.ListN.{length};
 ghost use Rattle.labels.specs.Labels.{labelCount};
-ghost use Rattle.decisions.specs.Outcomes.{GroundedOutcome};
+ghost use Rattle.decisions.specs.Outcomes.{groundedOutcome, GroundedRight};
 ghost use Rattle.stacks.specs.Stacks.{wordsAfter};
 ghost use Rattle.checks.specs.Requests.{request};
 
-// The grounded decision. The verdict is the definition's; yes shows an answer set of the expression's rules that obeys the assumptions, and no says that
-// there is none (demand 3). The workspace is untouched where a check refuses, else its needed words are zero.
+// The grounded decision. The outcome is the definition's; yes shows the first answer set of the expression's rules that obeys the assumptions, and no says
+// that there is none (demand 3). The workspace is untouched where a check refuses, else its needed words are zero.
 pub fn grounded(
     s: &[u8],
     p: u64,
@@ -20,7 +20,8 @@ pub fn grounded(
     assumed_false: u64,
     ws: &mut [u32],
 ) -> Outcome
-    ensures { λ r. ⌜ GroundedOutcome labelCount (request (now (s .entry)) p g (length (now (ws .entry))) «assumed_true» «assumed_false») r ⌝ }
+    ensures { λ r. ⌜ r ≡ groundedOutcome labelCount (request (now (s .entry)) p g (length (now (ws .entry))) «assumed_true» «assumed_false») ⌝ }
+    ensures { λ r. ⌜ GroundedRight labelCount (request (now (s .entry)) p g (length (now (ws .entry))) «assumed_true» «assumed_false») r ⌝ }
     ensures { λ r. ⌜ now (ws .exit) ≡ wordsAfter labelCount (request (now (s .entry)) p g (length (now (ws .entry))) «assumed_true» «assumed_false») (now (ws .entry)) ⌝ }
 {
     let r = check(s, p, g, ws.len(), assumed_true, assumed_false);

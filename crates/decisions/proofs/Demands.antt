@@ -20,8 +20,8 @@ use Rattle.semantics.proofs.Stacks.{Fits}
 use Rattle.semantics.proofs.Masks.{mask-agrees, mask-lt}
 use Rattle.tables.specs.Definitions.{triples, pairs, plainAccepts, groundedAccepts}
 use Rattle.tables.proofs.Answers.{FoundAnswerSet, FoundModel, answerSet-agree, grounded-found, found-grounded, plain-found, found-plain}
-use Rattle.decisions.specs.Decisions.{Verdict, affirmed, denied, assumed, pairsFault, plainFault, answer, grounded, plain, expressionOf, Shows}
-use Rattle.decisions.specs.Outcomes.{NoAnswerSet, NoModel}
+use Rattle.decisions.specs.Decisions.{Verdict, affirmed, denied, refused, assumed, pairsFault, plainFault, answer, grounded, plain, expressionOf, Shows}
+use Rattle.decisions.specs.Outcomes.{verdictOf, withMask, NoAnswerSet, NoModel}
 use Rattle.decisions.proofs.Walks.{Readable, readable-tree, Decided, Settled, decided}
 
 -- ---- the tree of a request that is decided
@@ -55,6 +55,13 @@ yes-if h e = h ∙ ap answer e ∙ (unfold answer in refl)
 no-if : {v : Verdict} {b : Bool} → v ≡ answer b → b ≡ false → v ≡ denied
 no-if h e = h ∙ ap answer e ∙ (unfold answer in refl)
 
+-- ---- the mask shown does not change the verdict
+
+pub mask-verdict : (m : ℕ) (v : Verdict) → verdictOf (withMask m v) ≡ v
+mask-verdict m affirmed = refl
+mask-verdict m denied = refl
+mask-verdict m (refused n at) = refl
+
 module _ (K : ℕ) (a : Request) where
   abbrev e : Expr
   e = expressionOf K (a .bytes)
@@ -76,21 +83,19 @@ module _ (K : ℕ) (a : Request) where
           let f = grounded-found K e (tree .fits) (tree .distinct) (assumed a) k in h (f .by) (f .obeys) (f .answerSet))),
     )
 
-    -- any mask that agrees with an answer set that obeys
-    pub shows-of : FoundAnswerSet (assumed a) e → (m : ℕ) × Shows K a m
+    -- the mask of an answer set that obeys
+    pub shows-of : (f : FoundAnswerSet (assumed a) e) → Shows K a (maskOf (f .by) (numbers e))
     shows-of f =
-        let g = mask-agrees (f .by) (numbers e) in (
-          maskOf (f .by) (numbers e),
-          record {
-            within = rw (tree .numbered, length-run 0 (tree .count)) (mask-lt (f .by) (tree .count));
-            obeys = obeys-agree (assumed a) g (f .obeys);
-            answerSet = answerSet-agree K e (tree .fits) (tree .distinct) g (f .answerSet);
-          },
-        )
+        let g = mask-agrees (f .by) (numbers e) in
+        record {
+          within = rw (tree .numbered, length-run 0 (tree .count)) (mask-lt (f .by) (tree .count));
+          obeys = obeys-agree (assumed a) g (f .obeys);
+          answerSet = answerSet-agree K e (tree .fits) (tree .distinct) g (f .answerSet);
+        }
 
     pub grounded-affirmed : (grounded K a ≡ affirmed) ↔ ((m : ℕ) × Shows K a m)
     grounded-affirmed = (
-      λ h. shows-of (grounded-found K e (tree .fits) (tree .distinct) (assumed a) (answer-yes _ (sym h ∙ ground .says))),
+      λ h. (_, shows-of (grounded-found K e (tree .fits) (tree .distinct) (assumed a) (answer-yes _ (sym h ∙ ground .says)))),
       λ s. yes-if (ground .says) (found-grounded K e (tree .fits) (tree .distinct) (assumed a) (ofMask (s .0)) (s .1 .obeys) (s .1 .answerSet)),
     )
 

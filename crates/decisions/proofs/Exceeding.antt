@@ -14,15 +14,14 @@ use Rattle.lists.proofs.Members.{some-of, some-is, not-true-false}
 use Rattle.expression.specs.declared.Counts.{Counts}
 use Rattle.expression.specs.declared.Checked.{Checked}
 use Rattle.expression.specs.declared.Checked.the-variants.{Passed, Refused}
-use Rattle.expression.specs.declared.Outcome.{Outcome}
 use Rattle.expression.specs.Refusals.{subsetsFull, plansFull}
 use Rattle.expression.specs.Checks.{Request, check}
 use Rattle.semantics.specs.Expressions.{Operations}
 use Rattle.tables.specs.Algebras.{tables}
 use Rattle.tables.specs.Definitions.{Pair, subsets, pairs, groundedAccepts}
 use Rattle.decisions.specs.Decisions.{Verdict, affirmed, denied, refused, assumed, pairsFault, newest, Walked, stopped, walked, walk, conclude, grounded}
-use Rattle.decisions.specs.Outcomes.{NoAnswerSet, GroundedRight, GroundedOutcome}
-use Rattle.decisions.specs.Exceeding.{OverSubsets, Exceeds, FullBy, commands, tableOn, FirstExceeding, WithinLimits, Demand3, Demand3Shown}
+use Rattle.decisions.specs.Outcomes.{NoAnswerSet}
+use Rattle.decisions.specs.Exceeding.{OverSubsets, Exceeds, FullBy, commands, tableOn, FirstExceeding, WithinLimits, Demand3}
 use Rattle.decisions.proofs.Walks.{Settled}
 use Rattle.decisions.proofs.Stops.{FirstFault, stopped-first, first-stopped, none-walked, walked-none}
 use Rattle.decisions.proofs.Demands.{grounded-denied, grounded-affirmed}
@@ -187,10 +186,3 @@ module _ (K : ℕ) (a : Request) where
       refusal out affirmed e = absurd (out (settled-within (subst Settled (sym e) tt)))
       refusal out denied e = absurd (out (settled-within (subst Settled (sym e) tt)))
       refusal out (refused n at) e = (n, at, e)
-
-  -- and of every outcome that the contract of the grounded call allows
-  pub demand3-shown : (r : Outcome) → GroundedOutcome K a r → Demand3Shown K a r
-  demand3-shown r c = record {
-    verdict = subst (Demand3 K a) (sym (c .verdict)) demand3;
-    shows = λ m e. subst (GroundedRight K a) e (c .right);
-  }

@@ -5,6 +5,8 @@ pub mod Shown
 pub mod Starred
 pub mod Carried
 pub mod Exceeding
+pub mod Pins
+pub mod First
 pub mod Words
 pub mod Outcomes
 pub mod Rooms

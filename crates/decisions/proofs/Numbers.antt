@@ -18,7 +18,7 @@ use Rattle.semantics.specs.Expressions.{Operations}
 use Rattle.tables.specs.Algebras.{tables}
 use Rattle.tables.specs.Definitions.{triples, plainAccepts}
 use Rattle.decisions.specs.Decisions.{Verdict, affirmed, denied, refused, assumed, commandsIn, plainFault, newest, Walked, stopped, walked, walk, conclude, plain}
-use Rattle.decisions.specs.Outcomes.{withoutMask, PlainOutcome}
+use Rattle.decisions.specs.Outcomes.{withoutMask, plainOutcome}
 use Rattle.decisions.proofs.Walks.{Settled}
 use Rattle.decisions.proofs.Stops.{newestAfter, stopped-first}
 use Rattle.decisions.proofs.Words.{answer-settled}
@@ -54,9 +54,9 @@ plain-number K a {n} {at} h = checked (check K a) refl
 pub plain-never-15 : (K : ℕ) (a : Request) (at : ℕ) → plain K a ≡ refused subsetsFull at → ⊥
 plain-never-15 K a at h = ⊎-elim (λ l. omega arith) (λ e. omega arith) (plain-number K a h)
 
--- nor does any outcome that the contract of the plain call allows
-pub outcome-never-15 : (K : ℕ) (a : Request) (at : ℕ) → PlainOutcome K a (outcome.Refused subsetsFull at) → ⊥
-outcome-never-15 K a at c = step (plain K a) refl (c .outcome)
+-- nor does what is answered
+pub outcome-never-15 : (K : ℕ) (a : Request) (at : ℕ) → outcome.Refused subsetsFull at ≡ plainOutcome K a → ⊥
+outcome-never-15 K a at h = step (plain K a) refl h
   where
     step : (v : Verdict) → plain K a ≡ v → outcome.Refused subsetsFull at ≡ withoutMask v → ⊥
     step (refused n p) e k = let q : subsetsFull ≡ n = cc in plain-never-15 K a p (e ∙ ap (λ x. refused x p) (sym q))

@@ -1,6 +1,6 @@
--- Outcomes that are the definitions' verdicts are right; and each way in which a decision over tables of pairs with values ends gives such an outcome.
+-- What the decisions answer is right; and each way in which a decision over tables of pairs with values ends gives what the definition answers.
 -- Assumes nothing.
-use mathlib.Core.Path.{_≡_, sym, ap, _∙_, subst}
+use mathlib.Core.Path.{_≡_, refl, sym, ap, _∙_, subst}
 use mathlib.Core.List.{List}
 use Prim.Native.Nat.{ℕ}
 use Rattle.expression.specs.declared.Counts.{Counts}
@@ -11,42 +11,60 @@ use Rattle.expression.specs.Checks.{Request, check}
 use Rattle.tables.specs.Definitions.{Pair, pairs}
 use Rattle.values.specs.Values.{Valued, none, worth}
 use Rattle.values.specs.First.{firstWords, shownBy}
-use Rattle.decisions.specs.Decisions.{Verdict, affirmed, denied, refused, newest, stopped, walked, grounded, plain, Shows}
-use Rattle.decisions.specs.Outcomes.{withoutMask, PlainRight, GroundedOutcome, PlainOutcome}
+use Rattle.decisions.specs.Decisions.{Verdict, affirmed, denied, refused, newest, stopped, walked, grounded, plain}
+use Rattle.decisions.specs.First.{firstMask}
+use Rattle.decisions.specs.Outcomes.{withMask, withoutMask, groundedOutcome, plainOutcome, GroundedRight, PlainRight}
+use Rattle.decisions.specs.Exceeding.{Demand3, Demand3Shown}
 use Rattle.decisions.proofs.Walks.{Settled}
-use Rattle.decisions.proofs.Demands.{grounded-denied, plain-denied, plain-affirmed}
+use Rattle.decisions.proofs.Demands.{mask-verdict, grounded-denied, plain-denied, plain-affirmed}
 use Rattle.decisions.proofs.Carried.{valuedWalk, grounded-stopped}
 use Rattle.decisions.proofs.Words.{leastIn, first-shown, none-shown}
+use Rattle.decisions.proofs.Exceeding.{demand3}
+use Rattle.decisions.proofs.First.{first-mask, first-only}
 
 module _ (K : ℕ) (a : Request) where
+  -- ---- what the decisions answer is right
+
+  grounded-shows : (v : Verdict) → grounded K a ≡ v → GroundedRight K a (withMask (firstMask K a) v)
+  grounded-shows affirmed h = first-mask K a h
+  grounded-shows denied h = grounded-denied K a (subst Settled (sym h) tt) .0 h
+  grounded-shows (refused n at) h = tt
+
+  pub grounded-right : {r : Outcome} → r ≡ groundedOutcome K a → GroundedRight K a r
+  grounded-right e = subst (GroundedRight K a) (sym e) (grounded-shows (grounded K a) refl)
+
+  plain-shows : (v : Verdict) → plain K a ≡ v → PlainRight K a (withoutMask v)
+  plain-shows affirmed h = let f = plain-affirmed K a (subst Settled (sym h) tt) .0 h in (f .by, f .obeys, f .model)
+  plain-shows denied h = plain-denied K a (subst Settled (sym h) tt) .0 h
+  plain-shows (refused n at) h = tt
+
+  pub plain-right : {r : Outcome} → r ≡ plainOutcome K a → PlainRight K a r
+  plain-right e = subst (PlainRight K a) (sym e) (plain-shows (plain K a) refl)
+
+  -- demand 3 of what is shown
+  pub demand3-shown : Demand3Shown K a (groundedOutcome K a)
+  demand3-shown = record { verdict = subst (Demand3 K a) (sym (mask-verdict (firstMask K a) (grounded K a))) (demand3 K a); shows = λ m e. grounded-right (sym e) }
+
   -- ---- from the verdict
 
-  pub affirmed-outcome : {m : ℕ} → grounded K a ≡ affirmed → Shows K a m → GroundedOutcome K a (Yes m)
-  affirmed-outcome h s = record { verdict = sym h; right = s }
+  pub grounded-outcome : {v : Verdict} → grounded K a ≡ v → withMask (firstMask K a) v ≡ groundedOutcome K a
+  grounded-outcome h = ap (withMask (firstMask K a)) (sym h)
 
-  pub denied-outcome : grounded K a ≡ denied → GroundedOutcome K a No
-  denied-outcome h = record { verdict = sym h; right = grounded-denied K a (subst Settled (sym h) tt) .0 h }
-
-  pub refused-outcome : {n at : ℕ} → grounded K a ≡ refused n at → GroundedOutcome K a (Refused n at)
-  refused-outcome h = record { verdict = sym h; right = tt }
-
-  plain-right : (v : Verdict) → plain K a ≡ v → PlainRight K a (withoutMask v)
-  plain-right affirmed h = let f = plain-affirmed K a (subst Settled (sym h) tt) .0 h in (f .by, f .obeys, f .model)
-  plain-right denied h = plain-denied K a (subst Settled (sym h) tt) .0 h
-  plain-right (refused n at) h = tt
-
-  pub plain-outcome : {r : Outcome} {v : Verdict} → plain K a ≡ v → r ≡ withoutMask v → PlainOutcome K a r
-  plain-outcome {r} {v} h e = record { outcome = e ∙ ap withoutMask (sym h); right = subst (PlainRight K a) (sym e) (plain-right v h) }
+  pub plain-outcome : {v : Verdict} → plain K a ≡ v → withoutMask v ≡ plainOutcome K a
+  plain-outcome h = ap withoutMask (sym h)
 
   -- ---- from the walk with first values, as 64-bit words keep them
 
   module _ {z : Counts} (passed : check K a ≡ Passed z) where
-    pub stopped-outcome : {n at : ℕ} → valuedWalk (pairs K) firstWords (a .subsetLimit) K a ≡ stopped n at → GroundedOutcome K a (Refused n at)
-    stopped-outcome h = refused-outcome (grounded-stopped firstWords K a passed h)
+    pub stopped-outcome : {n at : ℕ} → valuedWalk (pairs K) firstWords (a .subsetLimit) K a ≡ stopped n at → Refused n at ≡ groundedOutcome K a
+    stopped-outcome h = grounded-outcome (grounded-stopped firstWords K a passed h)
 
     module _ {us : List (List (Valued Pair ℕ))} (left : valuedWalk (pairs K) firstWords (a .subsetLimit) K a ≡ walked us) where
-      pub yes-outcome : (v : ℕ) → leastIn K (newest us) ≡ worth v → GroundedOutcome K a (Yes (shownBy (z .atoms) v))
-      yes-outcome v h = let s = first-shown K a passed left v h in affirmed-outcome (s .0) (s .1)
+      -- the mask of the least value is the first that may be shown, and so the one that the definition chooses
+      pub yes-outcome : (v : ℕ) → leastIn K (newest us) ≡ worth v → Yes (shownBy (z .atoms) v) ≡ groundedOutcome K a
+      yes-outcome v h =
+          let (y, s) = first-shown K a passed left v h in
+          ap Yes (first-only K a y (shownBy (z .atoms) v) (firstMask K a) s (first-mask K a y)) ∙ grounded-outcome y
 
-      pub no-outcome : leastIn K (newest us) ≡ none → GroundedOutcome K a No
-      no-outcome h = denied-outcome (none-shown K a passed left h)
+      pub no-outcome : leastIn K (newest us) ≡ none → No ≡ groundedOutcome K a
+      no-outcome h = grounded-outcome (none-shown K a passed left h)

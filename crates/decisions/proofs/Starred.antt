@@ -1,17 +1,12 @@
--- 01's starred sheets, as one table under one theorem: what each decision says of them, and every mask that may be shown, by computation. Assumes nothing.
-use mathlib.Core.Path.{_≡_, refl, sym, ap, ap₂, _∙_, subst}
-use mathlib.Core.Bool.{Bool, true, false, cond, not, _&&_, true≢false}
-use mathlib.Core.List.{List, [], _∷_, _++_, List·Memᴰ}
+-- 01's starred sheets, as one table under one theorem: what each decision answers, the mask shown included, by computation. Assumes nothing.
+use mathlib.Core.Path.{_≡_, refl, sym, ap, ap₂, _∙_}
+use mathlib.Core.Bool.{true, cond, not, _&&_}
+use mathlib.Core.List.{List, [], _∷_, _++_, map}
 use Prim.Native.Nat.{ℕ, zero, suc, _+_, _≤_, _<_}
 use native.Mathlib.Omega.{arith}
-use lib.Dec.{eqb}
-use borrow.Author.Tests.{lt-ltb, le-ltb, eqb-true}
-use Rattle.lists.specs.declared.Order.{Order}
-use Rattle.lists.specs.declared.Order.the-variants.{Less, Same, More}
-use Rattle.lists.specs.Lists.{All, some, every, keep, products, run}
+use borrow.Author.Tests.{lt-ltb, le-ltb}
+use Rattle.lists.specs.Lists.{some, products, run}
 use Rattle.lists.specs.Sorted.{compareNumbers, compareLists, insert, insertAll, canon, setOf}
-use Rattle.lists.proofs.Comparisons.{lists-lawful}
-use Rattle.lists.proofs.Members.{and-both}
 use Rattle.labels.specs.Labels.{labelCount}
 use Rattle.labels.specs.Sets.{has, without, replace}
 use Rattle.expression.specs.declared.Checked.the-variants.{Passed, Refused as stop}
@@ -28,44 +23,25 @@ use Rattle.semantics.specs.AnswerSets.{byMasks}
 use Rattle.tables.specs.Algebras.{leaf, tables, table}
 use Rattle.tables.specs.Triples.{markT, markF, markU, relabelTriple, settles, connectTriple, allMet}
 use Rattle.tables.specs.Definitions.{unitePairs, mapPair, triples, pairs, plainAccepts, accepting, groundedAccepts}
-use Rattle.decisions.specs.Decisions.{Verdict, affirmed, denied, refused, assumed, commandsIn, pairsFault, plainFault, walk, answer, conclude, decide, grounded, plain, treeOf, expressionOf}
-use Rattle.decisions.specs.Outcomes.{verdictOf, withoutMask, GroundedOutcome, PlainOutcome}
+use Rattle.decisions.specs.Decisions.{affirmed, refused, assumed, commandsIn, pairsFault, plainFault, walk, answer, conclude, decide, grounded, plain, treeOf, expressionOf}
+use Rattle.decisions.specs.First.{saysYes, chosen, firstMask}
+use Rattle.decisions.specs.Outcomes.{groundedOutcome, plainOutcome}
 use Rattle.decisions.specs.Exceeding.{Exceeds, commands, tableOn}
-use Rattle.decisions.proofs.Walks.{Settled}
 use Rattle.decisions.proofs.Stops.{newestAfter, none-walked}
-use Rattle.decisions.proofs.Demands.{tree}
-use Rattle.decisions.proofs.Shown.{narrowed, shownMasks, shows-listed}
+use Rattle.decisions.proofs.Outcomes.{grounded-outcome}
 use Rattle.decisions.proofs.Carried.{decide-passed, conclude-walked}
 use Rattle.decisions.proofs.Exceeding.{fault-full, none-exceeds, exceeding-refused}
 
-sameVerdict : Verdict → Verdict → Bool
-sameVerdict affirmed affirmed = true
-sameVerdict affirmed denied = false
-sameVerdict affirmed (refused n a) = false
-sameVerdict denied affirmed = false
-sameVerdict denied denied = true
-sameVerdict denied (refused n a) = false
-sameVerdict (refused m b) affirmed = false
-sameVerdict (refused m b) denied = false
-sameVerdict (refused m b) (refused n a) = eqb m n && eqb b a
-
-isSame : Order → Bool
-isSame Less = false
-isSame Same = true
-isSame More = false
-
--- a request; what the grounded decision says, with every mask that may be shown; what the plain one says
+-- a request; what the grounded decision answers, and the plain one
 record Row : Type 0 where
   asked : Request
-  says : Verdict
-  shown : List ℕ
-  plainly : Verdict
+  says : Outcome
+  plainly : Outcome
 
-row : List ℕ → ℕ → ℕ → ℕ → ℕ → Verdict → List ℕ → Verdict → Row
-row s P G i o v l p = record {
+row : List ℕ → ℕ → ℕ → ℕ → ℕ → Outcome → Outcome → Row
+row s P G i o r p = record {
   asked = record { bytes = s; pairLimit = P; subsetLimit = G; room = workspaceNeed P G; assumedTrue = i; assumedFalse = o };
-  says = v;
-  shown = l;
+  says = r;
   plainly = p;
 }
 
@@ -78,51 +54,54 @@ circle = 0x11 ∷ 0 ∷ 0x11 ∷ 1 ∷ 0x21 ∷ 0x12 ∷ 2 ∷ 0x21 ∷ 0x12 ∷
 twins : List ℕ
 twins = 0x11 ∷ 0 ∷ 0x11 ∷ 0 ∷ 0x21 ∷ []
 
+either : List ℕ
+either = twins ++ (0x12 ∷ 1 ∷ 0x21 ∷ 0x41 ∷ 0 ∷ 1 ∷ [])
+
 rows : List Row
 rows =
-    row listed 32 32 0 0 affirmed (1 ∷ []) affirmed
-    ∷ row listed 32 32 2 0 (refused 13 8) [] (refused 13 8)
-    ∷ row listed 32 32 0 2 (refused 13 8) [] (refused 13 8)
-    ∷ row circle 32 32 0 0 affirmed (0 ∷ []) affirmed
-    ∷ row circle 32 32 1 0 denied [] affirmed
-    ∷ row (listed ++ (0x43 ∷ 0 ∷ 1 ∷ [])) 32 32 0 0 denied [] affirmed
-    ∷ row (twins ++ (0x12 ∷ 1 ∷ 0x21 ∷ 0x41 ∷ 0 ∷ 1 ∷ [])) 32 32 0 0 affirmed (1 ∷ 2 ∷ []) affirmed
-    ∷ row (twins ++ (0x12 ∷ 1 ∷ 0x21 ∷ 0x41 ∷ 0 ∷ 1 ∷ [])) 32 32 3 0 denied [] affirmed
-    ∷ row (0x12 ∷ 0 ∷ []) 32 32 0 0 denied [] denied
-    ∷ row [] 32 32 0 0 (refused 12 0) [] (refused 12 0)
-    ∷ row (0x21 ∷ []) 32 32 0 0 (refused 11 0) [] (refused 11 0)
-    ∷ row (0x11 ∷ 7 ∷ []) 32 32 0 0 affirmed (0 ∷ []) affirmed
-    ∷ row (0x11 ∷ 8 ∷ []) 32 32 0 0 (refused 7 0) [] (refused 7 0)
-    ∷ row (0x41 ∷ 0 ∷ []) 32 32 0 0 (refused 6 0) [] (refused 6 0)
-    ∷ row (0x41 ∷ 0 ∷ 0 ∷ []) 32 32 0 0 (refused 8 0) [] (refused 8 0)
-    ∷ row (0x11 ∷ 0 ∷ []) 1 32 0 0 (refused 16 0) [] (refused 16 0)
-    ∷ row (0x11 ∷ 0 ∷ []) 1 32 0 1 affirmed (0 ∷ []) affirmed
-    ∷ row twins 3 2 0 0 affirmed (0 ∷ []) affirmed
-    ∷ row twins 2 2 0 0 (refused 16 4) [] (refused 16 4)
-    ∷ row twins 2 32 0 0 (refused 16 4) [] (refused 16 4)
-    ∷ row twins 2 1 0 0 (refused 15 4) [] (refused 16 4)
-    ∷ row twins 32 1 0 0 (refused 15 4) [] affirmed
+    row listed 32 32 0 0 (Yes 1) (Yes 0)
+    ∷ row listed 32 32 2 0 (Refused 13 8) (Refused 13 8)
+    ∷ row listed 32 32 0 2 (Refused 13 8) (Refused 13 8)
+    ∷ row circle 32 32 0 0 (Yes 0) (Yes 0)
+    ∷ row circle 32 32 1 0 No (Yes 0)
+    ∷ row (listed ++ (0x43 ∷ 0 ∷ 1 ∷ [])) 32 32 0 0 No (Yes 0)
+    -- 02, Item 5: either of two, and the first plan leaves out atom 0 where no pin holds it
+    ∷ row either 32 32 0 0 (Yes 2) (Yes 0)
+    ∷ row either 32 32 1 0 (Yes 1) (Yes 0)
+    ∷ row either 32 32 0 2 (Yes 1) (Yes 0)
+    ∷ row either 32 32 3 0 No (Yes 0)
+    ∷ row (0x12 ∷ 0 ∷ []) 32 32 0 0 No No
+    ∷ row [] 32 32 0 0 (Refused 12 0) (Refused 12 0)
+    ∷ row (0x21 ∷ []) 32 32 0 0 (Refused 11 0) (Refused 11 0)
+    ∷ row (0x11 ∷ 7 ∷ []) 32 32 0 0 (Yes 0) (Yes 0)
+    ∷ row (0x11 ∷ 8 ∷ []) 32 32 0 0 (Refused 7 0) (Refused 7 0)
+    ∷ row (0x41 ∷ 0 ∷ []) 32 32 0 0 (Refused 6 0) (Refused 6 0)
+    ∷ row (0x41 ∷ 0 ∷ 0 ∷ []) 32 32 0 0 (Refused 8 0) (Refused 8 0)
+    ∷ row (0x11 ∷ 0 ∷ []) 1 32 0 0 (Refused 16 0) (Refused 16 0)
+    ∷ row (0x11 ∷ 0 ∷ []) 1 32 0 1 (Yes 0) (Yes 0)
+    ∷ row twins 3 2 0 0 (Yes 0) (Yes 0)
+    ∷ row twins 2 2 0 0 (Refused 16 4) (Refused 16 4)
+    ∷ row twins 2 32 0 0 (Refused 16 4) (Refused 16 4)
+    ∷ row twins 2 1 0 0 (Refused 15 4) (Refused 16 4)
+    ∷ row twins 32 1 0 0 (Refused 15 4) (Yes 0)
     -- every pair is looked at for 15, those past the P-th too
-    ∷ row (0x11 ∷ 2 ∷ 0x11 ∷ 4 ∷ 0x21 ∷ []) 3 1 0 0 (refused 15 4) [] (refused 16 4)
+    ∷ row (0x11 ∷ 2 ∷ 0x11 ∷ 4 ∷ 0x21 ∷ []) 3 1 0 0 (Refused 15 4) (Refused 16 4)
     -- 31 i j moves i to j: moved the other way, no atom would be put into the rule's head
-    ∷ row (0x11 ∷ 0 ∷ 0x12 ∷ 1 ∷ 0x21 ∷ 0x31 ∷ 0 ∷ 2 ∷ 0x41 ∷ 2 ∷ 1 ∷ []) 32 32 0 0 affirmed (1 ∷ []) affirmed
+    ∷ row (0x11 ∷ 0 ∷ 0x12 ∷ 1 ∷ 0x21 ∷ 0x31 ∷ 0 ∷ 2 ∷ 0x41 ∷ 2 ∷ 1 ∷ []) 32 32 0 0 (Yes 1) (Yes 0)
     ∷ []
 
--- a refusal shows no mask
-shownRight : Request → Verdict → List ℕ → Bool
-shownRight a affirmed l = isSame (compareLists l (shownMasks labelCount a (expressionOf labelCount (a .bytes))))
-shownRight a denied l = isSame (compareLists l (shownMasks labelCount a (expressionOf labelCount (a .bytes))))
-shownRight a (refused n at) l = true
-
-right : Row → Bool
-right r = sameVerdict (grounded labelCount (r .asked)) (r .says) && shownRight (r .asked) (r .says) (r .shown) && sameVerdict (plain labelCount (r .asked)) (r .plainly)
-
-starred : every right rows ≡ true
-unfolding every right rows row listed circle twins sameVerdict isSame shownRight shownMasks narrowed keep run numbers grounded plain decide conclude answer walk pairsFault plainFault
-    commandsIn assumed byMasks treeOf expressionOf check checks overlongTest limitsTest crampedTest clashTest faultTest unjoinedTest absentTest isLimit countsOf faultPlace faultNumber isFaulty firstOf reading readFrom behind countFault counted effect noCounts readAt readCommand commandOf operandCount isCommand
-    twoOperands oneOperand act actAll trees uniteNewest changeNewest fold groundedAccepts plainAccepts accepting allMet pairs triples mapPair unitePairs connectTriple settles relabelTriple markT markF
-    markU table tables leaf some products setOf canon insertAll insert compareLists compareNumbers has without replace
+starred : map (λ r. groundedOutcome labelCount (r .asked)) rows ≡ map (λ r. r .says) rows
+unfolding rows row listed circle twins either firstMask chosen saysYes run numbers treeOf expressionOf actAll trees grounded decide conclude answer walk pairsFault groundedAccepts accepting pairs mapPair unitePairs setOf compareLists
+    commandsIn assumed byMasks check checks overlongTest limitsTest crampedTest clashTest faultTest unjoinedTest absentTest isLimit countsOf faultPlace faultNumber isFaulty firstOf reading readFrom behind countFault counted effect noCounts readAt readCommand commandOf operandCount isCommand
+    twoOperands oneOperand act uniteNewest changeNewest allMet connectTriple settles relabelTriple markT markF
+    markU tables leaf some products canon insertAll insert compareNumbers has without replace
 starred = refl
+
+starred-plain : map (λ r. plainOutcome labelCount (r .asked)) rows ≡ map (λ r. r .plainly) rows
+unfolding rows row listed circle twins either plain decide conclude answer walk plainFault plainAccepts triples commandsIn assumed byMasks check checks overlongTest limitsTest crampedTest clashTest faultTest unjoinedTest absentTest isLimit countsOf faultPlace faultNumber isFaulty firstOf reading readFrom behind countFault counted effect noCounts readAt readCommand commandOf operandCount isCommand
+    twoOperands oneOperand act uniteNewest changeNewest allMet connectTriple settles relabelTriple markT markF
+    markU tables leaf some products canon insertAll insert compareNumbers has without replace
+starred-plain = refl
 
 -- ---- two atoms of one label with G = 1: 15 at 4, whatever P of at least 2 is, in any room that suffices
 
@@ -151,6 +130,9 @@ module _ (P room : ℕ) (low : 2 ≤ P) (high : P ≤ tableLimit) (fits : worksp
       early (suc zero) l = none-exceeds P 1 (tableOn labelCount asks 1) (ap (λ b. cond b 16 0) (le-ltb P 2 low))
       early (suc (suc k)) l = absurd (omega arith)
 
+  twins-told : groundedOutcome labelCount asks ≡ Refused 15 4
+  twins-told = sym (grounded-outcome labelCount asks twins-full)
+
   -- plainly 16 at 4 with P = 2, which is among the rows, and else yes
   twins-plain : 3 ≤ P → plain labelCount asks ≡ affirmed
   unfolding twins plain plainFault plainAccepts allMet answer commandsIn assumed byMasks reading readFrom behind countFault counted effect noCounts readAt readCommand commandOf
@@ -178,83 +160,3 @@ unfolding listed commandsIn treeOf expressionOf reading readFrom behind countFau
     actAll trees uniteNewest changeNewest byMasks fold pairs mapPair unitePairs connectTriple settles relabelTriple markT markF markU table tables leaf some products setOf canon insertAll insert compareLists
     compareNumbers has without replace
 listing-10 = refl
-
--- ---- the same of the calls: what their contracts give for each row
-
--- the mask that an outcome shows is one of those listed
-abbrev ShowsOf : Outcome → List ℕ → Type 0
-ShowsOf (Yes m) l = List·Memᴰ m l
-ShowsOf No l = Unit {0}
-ShowsOf (Refused n at) l = Unit {0}
-
-record Told (r : Row) : Type 0 where
-  grounded-told : (o : Outcome) → GroundedOutcome labelCount (r .asked) o → (verdictOf o ≡ r .says) × ShowsOf o (r .shown)
-  plain-told : (o : Outcome) → PlainOutcome labelCount (r .asked) o → o ≡ withoutMask (r .plainly)
-
-same-is : (v w : Verdict) → sameVerdict v w ≡ true → v ≡ w
-unfolding sameVerdict
-same-is affirmed affirmed h = refl
-same-is affirmed denied h = absurd (true≢false (sym h))
-same-is affirmed (refused n a) h = absurd (true≢false (sym h))
-same-is denied affirmed h = absurd (true≢false (sym h))
-same-is denied denied h = refl
-same-is denied (refused n a) h = absurd (true≢false (sym h))
-same-is (refused m b) affirmed h = absurd (true≢false (sym h))
-same-is (refused m b) denied h = absurd (true≢false (sym h))
-same-is (refused m b) (refused n a) h = let q = and-both (eqb m n) (eqb b a) h in ap₂ refused (eqb-true m n (q .0)) (eqb-true b a (q .1))
-
-isSame-is : (o : Order) → isSame o ≡ true → o ≡ Same
-unfolding isSame
-isSame-is Less h = absurd (true≢false (sym h))
-isSame-is Same h = refl
-isSame-is More h = absurd (true≢false (sym h))
-
-module _ (r : Row) (h : right r ≡ true) where
-  abbrev a : Request
-  a = r .asked
-
-  abbrev verdict : Bool
-  verdict = sameVerdict (grounded labelCount a) (r .says)
-
-  abbrev masks : Bool
-  masks = shownRight a (r .says) (r .shown)
-
-  abbrev plain-verdict : Bool
-  plain-verdict = sameVerdict (plain labelCount a) (r .plainly)
-
-  both : ((verdict && masks) ≡ true) × (plain-verdict ≡ true)
-  unfolding right
-  both = and-both (verdict && masks) plain-verdict h
-
-  grounded-is : grounded labelCount a ≡ r .says
-  grounded-is = same-is (grounded labelCount a) (r .says) (and-both verdict masks (both .0) .0)
-
-  plain-is : plain labelCount a ≡ r .plainly
-  plain-is = same-is (plain labelCount a) (r .plainly) (both .1)
-
-  masks-are : r .says ≡ affirmed → r .shown ≡ shownMasks labelCount a (expressionOf labelCount (a .bytes))
-  unfolding shownRight
-  masks-are e = lists-lawful .same _ _ (isSame-is _ (subst (λ v. shownRight a v (r .shown) ≡ true) e (and-both verdict masks (both .0) .1)))
-
-  shown-told : (o : Outcome) → GroundedOutcome labelCount a o → ShowsOf o (r .shown)
-  shown-told (Yes m) c =
-      let says : r .says ≡ affirmed = sym grounded-is ∙ sym (c .verdict) in
-      let t = tree labelCount a (subst Settled (c .verdict) tt) in
-      subst (List·Memᴰ m) (sym (masks-are says)) (shows-listed labelCount a t m (c .right))
-  shown-told No c = tt
-  shown-told (Refused n at) c = tt
-
-  told : Told r
-  told = record { grounded-told = λ o c. (c .verdict ∙ grounded-is, shown-told o c); plain-told = λ o c. c .outcome ∙ ap withoutMask plain-is }
-
-told-all : (rs : List Row) → every right rs ≡ true → All Told rs
-unfolding every
-told-all [] h = tt
-told-all (r ∷ rs) h = let q = and-both (right r) (every right rs) h in (told r (q .0), told-all rs (q .1))
-
-starred-told : All Told rows
-starred-told = told-all rows starred
-
--- and with G = 1 the two atoms of one label, for every P
-twins-told : (P room : ℕ) → 2 ≤ P → P ≤ tableLimit → workspaceNeed P 1 ≤ room → (o : Outcome) → GroundedOutcome labelCount (narrow P room) o → verdictOf o ≡ refused 15 4
-twins-told P room low high fits o c = c .verdict ∙ twins-full P room low high fits

@@ -16,6 +16,7 @@ use Rattle.semantics.specs.AnswerSets.{Assumptions}
 use Rattle.tables.specs.Algebras.{tables}
 use Rattle.tables.specs.Definitions.{Pair, subsets, pairs}
 use Rattle.decisions.specs.Decisions.{Verdict, affirmed, denied, refused, assumed, commandsIn, newest, Shows}
+use Rattle.decisions.specs.First.{FirstShown}
 use Rattle.decisions.specs.Outcomes.{verdictOf, NoAnswerSet}
 
 -- 01: the tables on the way, by bytes and assumptions alone: that of the newest part after k commands
@@ -69,7 +70,7 @@ module _ (K : ℕ) (a : Request) where
     pub byCheck : (n at : ℕ) → check K a ≡ Refused n at → v ≡ refused n at
     pub byTable : (z : Counts) → check K a ≡ Passed z → (n at : ℕ) → (v ≡ refused n at) ↔ FirstExceeding n at
 
-  -- of an outcome: that of its verdict, and yes shows a mask that may be shown
+  -- of an outcome: that of its verdict, and yes shows the first mask that may be shown
   pub record Demand3Shown (r : Outcome) : Type 0 where
     pub verdict : Demand3 (verdictOf r)
-    pub shows : (m : ℕ) → r ≡ Yes m → Shows K a m
+    pub shows : (m : ℕ) → r ≡ Yes m → FirstShown K a m

@@ -1,3 +1,4 @@
 pub mod Decisions
+pub mod First
 pub mod Outcomes
 pub mod Exceeding

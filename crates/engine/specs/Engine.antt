@@ -11,7 +11,7 @@ shownOutcome n No = No
 shownOutcome n (Refused f at) = Refused f at
 
 -- without a mask
-abbrev pub plainOutcome : Outcome → Outcome
-plainOutcome (Yes v) = Yes 0
-plainOutcome No = No
-plainOutcome (Refused f at) = Refused f at
+abbrev pub unshownOutcome : Outcome → Outcome
+unshownOutcome (Yes v) = Yes 0
+unshownOutcome No = No
+unshownOutcome (Refused f at) = Refused f at

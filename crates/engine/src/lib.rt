@@ -17,7 +17,7 @@ ghost use Rattle.workspace.specs.Workspace.{valuesFrom};
 ghost use Rattle.stacks.specs.Stacks.{cleared};
 ghost use Rattle.walks.specs.Walks.{Enough};
 ghost use Rattle.deciding.specs.Deciding.{Decides};
-ghost use Rattle.engine.specs.Engine.{shownOutcome, plainOutcome};
+ghost use Rattle.engine.specs.Engine.{shownOutcome, unshownOutcome};
 
 // As decide, in arrays that are long enough.
 fn decide_in(
@@ -74,7 +74,7 @@ pub fn shown(o: Outcome, n: u64) -> Outcome
 
 // Yes without a mask.
 pub fn unshown(o: Outcome) -> Outcome
-    ensures { λ r. ⌜ r ≡ plainOutcome o ⌝ }
+    ensures { λ r. ⌜ r ≡ unshownOutcome o ⌝ }
 {
     match o {
         Outcome::Yes(_) => Outcome::Yes(0),

@@ -1,8 +1,7 @@
--- What a host gets of a decision (01, "One command a call"). Assumes nothing.
-use mathlib.Core.Path.{_≡_}
+-- What a host gets of a decision (01, "One command a call"). Nothing of it is free. Assumes nothing.
 use mathlib.Core.Bool.{cond}
 use mathlib.Core.List.{List, _∷_}
-use Prim.Native.Nat.{ℕ, _≤_, _<_}
+use Prim.Native.Nat.{ℕ}
 use lib.ListN.{length, drop}
 use lib.Dec.{ltb}
 use Rattle.labels.specs.Labels.{labelCount}
@@ -30,8 +29,3 @@ workspaceAfter answer a ws = unlessShort answer ws (wordsAfter labelCount a ws)
 -- an outcome's three words, and the later words kept
 abbrev pub answerOf : Outcome → List ℕ → List ℕ
 answerOf o answer = kindOf o ∷ valueOf o ∷ placeOf o ∷ drop answerWords answer
-
--- the answer's slice before and after a call: a short one is as it was; any other tells an outcome of which R holds
-pub record Answered (R : Outcome → Type 0) (answer answer' : List ℕ) : Type 0 where
-  pub short : length answer < answerWords → answer' ≡ answer
-  pub told : answerWords ≤ length answer → (o : Outcome) × R o × (answer' ≡ answerOf o answer)

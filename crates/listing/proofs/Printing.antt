@@ -13,30 +13,27 @@ use Rattle.expression.specs.declared.Outcome.{Outcome}
 use Rattle.expression.specs.Checks.{Request}
 use Rattle.expression.proofs.Commands.{read-ends}
 use Rattle.tables.specs.Definitions.{ownTriple, subsets}
-use Rattle.decisions.specs.Decisions.{Verdict, affirmed, denied, refused, grounded, plain}
-use Rattle.decisions.specs.Outcomes.{verdictOf, withoutMask, GroundedOutcome, PlainOutcome}
+use Rattle.decisions.specs.Decisions.{grounded, plain}
+use Rattle.decisions.specs.First.{firstMask}
+use Rattle.decisions.specs.Outcomes.{verdictOf, groundedOutcome, plainOutcome}
+use Rattle.decisions.proofs.Demands.{mask-verdict}
 use Rattle.leaves.specs.declared.Tables.the-variants.{Pairs}
 use Rattle.reports.specs.Reports.{entryWords, reportOf}
 use Rattle.listing.specs.Listing.{isRefusal, eitherRefused, lastFrom, lastStart, PairsFrom}
 
 -- ---- a refusal by either decision
 
-module _ (K : ℕ) (a : Request) (o : Outcome) (q : Bool) (g : GroundedOutcome K a o) (h : q ≡ isRefusal (verdictOf o)) where
+module _ (K : ℕ) (a : Request) (o : Outcome) (q : Bool) (g : o ≡ groundedOutcome K a) (h : q ≡ isRefusal (verdictOf o)) where
   grounded-is : q ≡ isRefusal (grounded K a)
-  grounded-is = h ∙ ap isRefusal (g .verdict)
+  grounded-is = h ∙ ap (λ (x : Outcome). isRefusal (verdictOf x)) g ∙ ap isRefusal (mask-verdict (firstMask K a) (grounded K a))
 
   pub first-refused : q ≡ true → true ≡ eitherRefused K a
   first-refused t = ap (λ (b : Bool). b || isRefusal (plain K a)) (sym t ∙ grounded-is)
 
-  pub second-refused : (b : Request) (p : Outcome) (r : Bool) → q ≡ false → b ≡ a → PlainOutcome K b p → r ≡ isRefusal (verdictOf p) → r ≡ eitherRefused K a
+  pub second-refused : (b : Request) (p : Outcome) (r : Bool) → q ≡ false → b ≡ a → p ≡ plainOutcome K b → r ≡ isRefusal (verdictOf p) → r ≡ eitherRefused K a
   second-refused b p r f e w l =
-      l ∙ ap (λ (x : Outcome). isRefusal (verdictOf x)) (w .outcome) ∙ unmasked (plain K b) ∙ ap (λ (x : Request). isRefusal (plain K x)) e
+      l ∙ ap (λ (x : Outcome). isRefusal (verdictOf x)) w ∙ ap isRefusal (mask-verdict 0 (plain K b)) ∙ ap (λ (x : Request). isRefusal (plain K x)) e
       ∙ ap (λ (x : Bool). x || isRefusal (plain K a)) (sym f ∙ grounded-is)
-    where
-      unmasked : (v : Verdict) → isRefusal (verdictOf (withoutMask v)) ≡ isRefusal v
-      unmasked affirmed = refl
-      unmasked denied = refl
-      unmasked (refused n at) = refl
 
 -- ---- the last start
 

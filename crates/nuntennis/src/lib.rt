@@ -6,19 +6,18 @@ use records::Record;
 ghost use mathlib.Core.Path.{_≡_};
 ghost use lib.ListN.{length};
 ghost use Rattle.labels.specs.Labels.{labelCount};
-ghost use Rattle.decisions.specs.Decisions.{plain};
-ghost use Rattle.decisions.specs.Outcomes.{withoutMask, GroundedOutcome};
+ghost use Rattle.decisions.specs.Outcomes.{groundedOutcome, plainOutcome};
 ghost use Rattle.leaves.specs.declared.Tables.the-variants.{Pairs};
 ghost use Rattle.reports.specs.Reports.{reportOf};
 ghost use Rattle.reporting.specs.Reporting.{reportAnswer, reportBuffer, wordsReported};
 ghost use Rattle.checks.specs.Requests.{request};
 ghost use Rattle.records.specs.Steps.{step, start, verdict};
-ghost use Rattle.host_words.specs.Answers.{returned, unlessShort, workspaceAfter, answerOf, Answered};
+ghost use Rattle.host_words.specs.Answers.{returned, unlessShort, workspaceAfter, answerOf};
 ghost use Rattle.host_words.specs.Reported.{reportWordsOf};
 ghost use Rattle.host_words.specs.Walked.{progressWordsOf};
 ghost use Rattle.nuntennis.specs.Reported.{pairsAsked, triplesAsked};
 
-// The grounded decision. The mask of a yes is the only free result: an answer set that obeys the assumptions (demand 3).
+// The grounded decision: nothing of it is free, and a yes shows the first grounded plan (02, Item 5).
 #[no_mangle]
 pub extern "C" fn nuntennis_grounded(
     sheet: &[u8],
@@ -30,7 +29,7 @@ pub extern "C" fn nuntennis_grounded(
     answer: &mut [u64],
 ) -> u64
     ensures { λ r. ⌜ r ≡ returned (now (answer .entry)) ⌝ }
-    ensures { λ r. ⌜ Answered (GroundedOutcome labelCount (request (now (sheet .entry)) p g (length (now (workspace .entry))) «pins_in» «pins_out»)) (now (answer .entry)) (now (answer .exit)) ⌝ }
+    ensures { λ r. ⌜ now (answer .exit) ≡ unlessShort (now (answer .entry)) (now (answer .entry)) (answerOf (groundedOutcome labelCount (request (now (sheet .entry)) p g (length (now (workspace .entry))) «pins_in» «pins_out»)) (now (answer .entry))) ⌝ }
     ensures { λ r. ⌜ now (workspace .exit) ≡ workspaceAfter (now (answer .entry)) (request (now (sheet .entry)) p g (length (now (workspace .entry))) «pins_in» «pins_out») (now (workspace .entry)) ⌝ }
 {
     if answer.len() < ANSWER_WORDS {
@@ -53,7 +52,7 @@ pub extern "C" fn nuntennis_plain(
     answer: &mut [u64],
 ) -> u64
     ensures { λ r. ⌜ r ≡ returned (now (answer .entry)) ⌝ }
-    ensures { λ r. ⌜ now (answer .exit) ≡ unlessShort (now (answer .entry)) (now (answer .entry)) (answerOf (withoutMask (plain labelCount (request (now (sheet .entry)) p g (length (now (workspace .entry))) «pins_in» «pins_out»))) (now (answer .entry))) ⌝ }
+    ensures { λ r. ⌜ now (answer .exit) ≡ unlessShort (now (answer .entry)) (now (answer .entry)) (answerOf (plainOutcome labelCount (request (now (sheet .entry)) p g (length (now (workspace .entry))) «pins_in» «pins_out»)) (now (answer .entry))) ⌝ }
     ensures { λ r. ⌜ now (workspace .exit) ≡ workspaceAfter (now (answer .entry)) (request (now (sheet .entry)) p g (length (now (workspace .entry))) «pins_in» «pins_out») (now (workspace .entry)) ⌝ }
 {
     if answer.len() < ANSWER_WORDS {

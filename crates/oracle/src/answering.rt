@@ -97,16 +97,36 @@ fn fitted(a: Answer, q: Request) -> Answer {
 
 // ---- answers by the rules alone
 
-// Whether some answer set (01: grounded plan) obeys the pins; of a plain request, whether some model does. The first one is given.
+// Whether some answer set (01: grounded plan) obeys the pins; of a plain request, whether some model does.
 fn enumerate(p: Policy, q: Request) -> Answer {
-    let mut i: u64 = 0;
-    while i < 128 {
-        if is_answer(p, q, i) {
-            return answered(YES, i, 0);
+    let mut k: u64 = 0;
+    while k < 128 {
+        let mask = turned(k);
+        if is_answer(p, q, mask) {
+            return answered(YES, shown(q, mask), 0);
         }
-        i += 1;
+        k += 1;
     }
     answered(NO, 0, 0)
+}
+
+// The seven digits of k in turned order. As k rises, what leaves atom 0 out comes first, then atom 1 likewise, and so on (02, Item 5).
+fn turned(k: u64) -> u64 {
+    (k >> 6 & 1)
+        | (k >> 4 & 2)
+        | (k >> 2 & 4)
+        | (k & 8)
+        | ((k & 4) << 2)
+        | ((k & 2) << 4)
+        | ((k & 1) << 6)
+}
+
+// A plain yes shows nothing.
+fn shown(q: Request, mask: u64) -> u64 {
+    if q.is_plain {
+        return 0;
+    }
+    mask
 }
 
 fn is_answer(p: Policy, q: Request, i: u64) -> bool {
@@ -120,13 +140,4 @@ fn is_answer(p: Policy, q: Request, i: u64) -> bool {
         return true;
     }
     is_least(p, i)
-}
-
-// Whether a mask may be shown with a yes: an answer set that obeys the pins, of the sheet's atoms alone.
-pub fn is_answer_set(s: &[u8], q: Request, mask: u64) -> bool {
-    let p = check(s, q);
-    if p.fault != 0 {
-        return false;
-    }
-    is_answer(p, q, mask)
 }

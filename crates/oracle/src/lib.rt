@@ -1,11 +1,11 @@
-// Document 01 by enumeration, from the meaning of the rules alone: what a small sheet says, its tables and its answers. For testing the engine
+// Documents 01 and 02 by enumeration, from the meaning of the rules alone: what a small sheet says, its tables and its answers. For testing the engine
 // against; slow and simple. It shares with the engine the limits' and refusals' numbers and no function or definition of tables. What a rule and pins
 // mean is proved (crate meaning); all else here is proved to stay within bounds and to end, and is right as far as it is tried (crate trials).
 pub mod answering;
 pub mod checking;
 
-// What a decision or a report answers: the value of a yes is the least mask that may be shown; a report has the kind YES, its number of entries for a
-// value, and in place of a place its number of words.
+// What a decision or a report answers: the value of a yes is the mask shown (plainly 0); a report has the kind YES, its number of entries for a value,
+// and in place of a place its number of words.
 pub struct Answer {
     pub kind: u64,
     pub value: u64,

@@ -6,7 +6,7 @@ use expression::limits::AREAS;
 ghost use mathlib.Core.Path.{_≡_};
 ghost use lib.ListN.{length};
 ghost use Rattle.labels.specs.Labels.{labelCount};
-ghost use Rattle.decisions.specs.Outcomes.{PlainOutcome};
+ghost use Rattle.decisions.specs.Outcomes.{plainOutcome, PlainRight};
 ghost use Rattle.stacks.specs.Stacks.{wordsAfter};
 ghost use Rattle.checks.specs.Requests.{request};
 
@@ -19,7 +19,8 @@ pub fn plain(
     assumed_false: u64,
     ws: &mut [u32],
 ) -> Outcome
-    ensures { λ r. ⌜ PlainOutcome labelCount (request (now (s .entry)) p g (length (now (ws .entry))) «assumed_true» «assumed_false») r ⌝ }
+    ensures { λ r. ⌜ r ≡ plainOutcome labelCount (request (now (s .entry)) p g (length (now (ws .entry))) «assumed_true» «assumed_false») ⌝ }
+    ensures { λ r. ⌜ PlainRight labelCount (request (now (s .entry)) p g (length (now (ws .entry))) «assumed_true» «assumed_false») r ⌝ }
     ensures { λ r. ⌜ now (ws .exit) ≡ wordsAfter labelCount (request (now (s .entry)) p g (length (now (ws .entry))) «assumed_true» «assumed_false») (now (ws .entry)) ⌝ }
 {
     let r = check(s, p, g, ws.len(), assumed_true, assumed_false);

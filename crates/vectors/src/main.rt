@@ -1,6 +1,6 @@
 // The engine held against the oracle: the sheets to try of 01 that are not starred, sheets with too many bytes, atoms or rules, then pseudo-random
-// sheets, each by one of the four calls. Compared are the outcome, the plan shown, every word of a report and every word of workspace and buffer afterwards. Prints the first disagreement, if any, and
-// how often each outcome was agreed on.
+// sheets, each by one of the four calls. Compared are the outcome, which plan is shown, every word of a report and every word of workspace and buffer
+// afterwards. Prints the first disagreement, if any, and how often each outcome was agreed on.
 ghost use Prim.Native.Nat.{_≤_};
 use calls::grounded;
 use expression::Outcome;
@@ -16,7 +16,6 @@ use oracle::REFUSED;
 use oracle::YES;
 use oracle::answered;
 use oracle::answering::answer;
-use oracle::answering::is_answer_set;
 use oracle::checking::workspace_need;
 use oracle::is_same;
 use oracle_tables::Request;
@@ -158,30 +157,9 @@ const AGREED_TABLE: u64 = 22;
 // Disagreements.
 const OUTCOME: u64 = 32;
 
-const PLAN: u64 = 33;
+const WORKSPACE: u64 = 33;
 
-const WORKSPACE: u64 = 34;
-
-const BUFFER: u64 = 35;
-
-// Whether both say yes to a decision: each shows a plan of its own.
-fn is_yes(found: Answer, expected: Answer, q: Request) -> bool {
-    if q.is_report {
-        return false;
-    }
-    if found.kind != YES {
-        return false;
-    }
-    expected.kind == YES
-}
-
-// Whether a plan may be shown; a plain yes shows none.
-fn shows(s: &[u8], q: Request, plan: u64) -> bool {
-    if q.is_plain {
-        return plan == 0;
-    }
-    is_answer_set(s, q, plan)
-}
+const BUFFER: u64 = 34;
 
 // AGREED with the kind added, if it is no refusal.
 fn agreed(a: Answer, q: Request) -> u64 {
@@ -194,13 +172,7 @@ fn agreed(a: Answer, q: Request) -> u64 {
     AGREED + a.kind % 4
 }
 
-fn judged(s: &[u8], q: Request, found: Answer, expected: Answer) -> u64 {
-    if is_yes(found, expected, q) {
-        if shows(s, q, found.value) {
-            return agreed(found, q);
-        }
-        return PLAN;
-    }
+fn judged(q: Request, found: Answer, expected: Answer) -> u64 {
     if is_same(found, expected) {
         return agreed(found, q);
     }
@@ -231,7 +203,7 @@ fn compared(
     if !is_left(out, words, written(found, q)) {
         return BUFFER;
     }
-    judged(s, q, found, expected)
+    judged(q, found, expected)
 }
 
 fn try_lent(s: &[u8], q: Request, words: &[u32; 16512], expected: Answer) -> u64 {

@@ -1,26 +1,15 @@
 -- `nuntennis_grounded`: the slice is short, or `calls::grounded` decides and its outcome is written.
-use mathlib.Core.Path.{refl}
-use lib.ListN.{length}
+use mathlib.Core.Path.{refl, ap, _∙_}
 use borrow.Author.Needs.{needs}
 use borrow.Author.Tests.{lt-ltb, le-ltb}
-use Rattle.labels.specs.Labels.{labelCount}
-use Rattle.expression.specs.declared.Outcome.{Outcome}
-use Rattle.decisions.specs.Outcomes.{GroundedOutcome}
-use Rattle.checks.specs.Requests.{request}
-use Rattle.host_words.proofs.Answers.{answered-short, answered-told}
+use Rattle.host_words.specs.Answers.{answerOf}
 use Rattle.nuntennis.proofs.nuntennis_grounded.Statement.{statement}
 use Rattle.nuntennis.proofs.nuntennis_grounded.Tie as tie
 use Rattle.calls.proofs.grounded.Reads as grounded-reads
 use Rattle.host_words.proofs.write_answer.Reads as write-answer-reads
 
-abbrev Right : tie.Start → Outcome → Type 0
-Right s = GroundedOutcome labelCount (request (s .args .sheet .now) (s .args .p) (s .args .g) (length (s .args .workspace .now)) (s .args .pins-in) (s .args .pins-out))
-
 returns : tie.Need-returns
-returns c =
-    let s = c .before .before .before .before in
-    let l = c .if1 .taken in
-    simp (lt-ltb _ _ l) (refl, (answered-short (Right s) _ l, refl))
+returns c = simp (lt-ltb _ _ (c .if1 .taken)) (refl, (refl, refl))
 
 grounded-requires : tie.Need-grounded-requires
 grounded-requires c κs = search needs
@@ -39,8 +28,7 @@ returns-2 c =
     let w = c .before .before .write-answer in
     let d = c .before .before .before .before .before .before .grounded in
     let e = c .before .before .before .before .before .before .before .before in
-    let l = e .if1 .left in
-    simp (le-ltb _ _ l) (refl, (answered-told (Right (e .before .before .before .before)) _ (d .result) l (d .ensures .0) (w .ensures), d .ensures .1))
+    simp (le-ltb _ _ (e .if1 .left)) (refl, (w .ensures ∙ ap (λ o. answerOf o (e .before .before .before .before .args .answer .now)) (d .ensures .0), d .ensures .1 .1))
 
 pub nuntennis-grounded-spec : {M : Type 1} → statement M
 nuntennis-grounded-spec =

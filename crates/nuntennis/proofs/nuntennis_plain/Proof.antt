@@ -28,7 +28,7 @@ returns-2 c =
     let w = c .before .before .write-answer in
     let d = c .before .before .before .before .before .before .plain in
     let e = c .before .before .before .before .before .before .before .before in
-    simp (le-ltb _ _ (e .if1 .left)) (refl, (w .ensures ∙ ap (λ o. answerOf o (e .before .before .before .before .args .answer .now)) (d .ensures .0 .outcome), d .ensures .1))
+    simp (le-ltb _ _ (e .if1 .left)) (refl, (w .ensures ∙ ap (λ o. answerOf o (e .before .before .before .before .args .answer .now)) (d .ensures .0), d .ensures .1 .1))
 
 pub nuntennis-plain-spec : {M : Type 1} → statement M
 nuntennis-plain-spec =

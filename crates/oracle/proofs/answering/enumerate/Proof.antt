@@ -5,16 +5,22 @@ use Rattle.oracle.proofs.answering.enumerate.Statement.{statement}
 use Rattle.oracle.proofs.answering.enumerate.Tie as tie
 
 abbrev Inv-loop : tie.InvT-loop
-Inv-loop p q i₀ i = i ≤ 128
+Inv-loop p q k₀ k = k ≤ 128
 
 abbrev μ-loop : tie.MeasureT-loop
-μ-loop p q i₀ i = 128 - i
+μ-loop p q k₀ k = 128 - k
 
 loop-holds : tie.Need-loop-holds Inv-loop μ-loop
 loop-holds c = search needs
 
+turned-requires : tie.Need-turned-requires Inv-loop μ-loop
+turned-requires c κs = search needs
+
 is-answer-requires : tie.Need-is-answer-requires Inv-loop μ-loop
 is-answer-requires c κs = search needs
+
+shown-requires : tie.Need-shown-requires Inv-loop μ-loop
+shown-requires c κs = search needs
 
 answered-requires : tie.Need-answered-requires Inv-loop μ-loop
 answered-requires c κs = search needs
@@ -22,8 +28,8 @@ answered-requires c κs = search needs
 returns : tie.Need-returns Inv-loop μ-loop
 returns c = search needs
 
-add-i : tie.Need-add-i Inv-loop μ-loop
-add-i c = search needs
+add-k : tie.Need-add-k Inv-loop μ-loop
+add-k c = search needs
 
 loop-less : tie.Need-loop-less Inv-loop μ-loop
 loop-less c = search needs
@@ -44,10 +50,12 @@ enumerate-spec =
     Inv-loop
     μ-loop
     loop-holds
+    turned-requires
     is-answer-requires
+    shown-requires
     answered-requires
     returns
-    add-i
+    add-k
     loop-less
     loop-again
     answered-requires-2
