@@ -51,6 +51,8 @@ printf '\021\000\022\001\041\101\000\001' >listed.bin
 
 # ---- 0 yes, 1 no, 2 refused
 expect 0 'yes: the first grounded plan keeps these copies: 0' "$host" listed.hex
+expect 0 'yes: the first grounded plan keeps these copies: 1' "$host" "$sheets/either_of_two.hex"
+expect 0 'yes: the first grounded plan keeps these copies: 0' "$host" "$sheets/either_of_two.hex" -o 1
 expect 1 'no: no grounded plan obeys the pins; some plan' "$host" "$sheets/circle_ticked.hex"
 expect 1 'no plan that obeys them even meets every rule' "$host" "$sheets/unmet_rule.hex"
 expect 2 'refused: 7 group at byte 2' "$host" "$sheets/refused_group.hex"
@@ -170,7 +172,9 @@ expect 5 'text.hex:1: no copy is listed: pins out' "$host" text.hex
 text '  #: pins out 0 \n#: limits 1 32\n11 00\n'
 expect 0 'P = 1, G = 32; pinned in: none; pinned out: 0' "$host" text.hex
 text '#: plain 1 0 0\n#: plain 1 0 0\n11 00\n'
-expect 5 'text.hex:2: a second plain answer' "$host" text.hex
+expect 5 'text.hex:2: a second answer of its kind: plain 1 0 0' "$host" text.hex
+text '#: answer 1 1 0\n#: plain 1 0 0\n#: answer 1 2 0\n11 00\n'
+expect 5 'text.hex:3: a second answer of its kind: answer 1 2 0' "$host" text.hex
 
 # ---- no memory, no room for the output
 expect 7 'host: no memory for 9455616 words' short_of_memory "$host" -p 1024 -g 1024 listed.hex
