@@ -11,9 +11,9 @@ use Rattle.expression.specs.Checks.{Request, check}
 use Rattle.tables.specs.Definitions.{Pair, pairs}
 use Rattle.values.specs.Values.{Valued, none, worth}
 use Rattle.values.specs.First.{firstWords, shownBy}
-use Rattle.decisions.specs.Decisions.{Verdict, affirmed, denied, refused, newest, stopped, walked, grounded, plain}
+use Rattle.decisions.specs.Decisions.{Verdict, affirmed, denied, refused, newest, stopped, walked, grounded, plain, Shows}
 use Rattle.decisions.specs.First.{firstMask}
-use Rattle.decisions.specs.Outcomes.{withMask, withoutMask, groundedOutcome, plainOutcome, GroundedRight, PlainRight}
+use Rattle.decisions.specs.Outcomes.{verdictOf, withMask, withoutMask, groundedOutcome, plainOutcome, GroundedRight, PlainRight}
 use Rattle.decisions.specs.Exceeding.{Demand3, Demand3Shown}
 use Rattle.decisions.proofs.Walks.{Settled}
 use Rattle.decisions.proofs.Demands.{mask-verdict, grounded-denied, plain-denied, plain-affirmed}
@@ -44,6 +44,16 @@ module _ (K : ℕ) (a : Request) where
   -- demand 3 of what is shown
   pub demand3-shown : Demand3Shown K a (groundedOutcome K a)
   demand3-shown = record { verdict = subst (Demand3 K a) (sym (mask-verdict (firstMask K a) (grounded K a))) (demand3 K a); shows = λ m e. grounded-right (sym e) }
+
+  -- ---- what Item 5 changes: of the outcomes allowed before it one is left
+
+  -- the verdict's, and with yes any mask that may be shown
+  pub record BaseOutcome (r : Outcome) : Type 0 where
+    pub verdict : verdictOf r ≡ grounded K a
+    pub shows : (m : ℕ) → r ≡ Yes m → Shows K a m
+
+  pub base-outcome : BaseOutcome (groundedOutcome K a)
+  base-outcome = record { verdict = mask-verdict (firstMask K a) (grounded K a); shows = λ m e. demand3-shown .shows m e .shows }
 
   -- ---- from the verdict
 

@@ -11,11 +11,11 @@ use Rattle.semantics.specs.AnswerSets.{Interpretation, Obeys, AnswerSet, ofMask
 use Rattle.values.specs.First.{NotBefore}
 use Rattle.decisions.specs.Decisions.{Verdict, affirmed, denied, refused, assumed, grounded, expressionOf, Shows}
 
--- the same request with other assumptions (01: pins in and out)
+-- the same request with other assumptions (01: pins)
 abbrev pub assuming : ℕ → ℕ → Request → Request
 assuming i o a = record { bytes = a .bytes; pairLimit = a .pairLimit; subsetLimit = a .subsetLimit; room = a .room; assumedTrue = i; assumedFalse = o }
 
--- with the atom c assumed false, or true, beside what is assumed
+-- with atom c assumed false, or true, beside what is assumed
 abbrev pub leaving : ℕ → Request → Request
 leaving c a = assuming (a .assumedTrue) (bitOr (2 ^ c) (a .assumedFalse)) a
 
@@ -27,7 +27,8 @@ saysYes affirmed = true
 saysYes denied = false
 saysYes (refused n at) = false
 
--- 02: left out if any grounded plan obeying the pins leaves it out, then the next by the same test among those still possible; as a mask of those kept
+-- 02: an atom is left out if any answer set that obeys the assumptions leaves it out, that is, if the decision says yes with it assumed false; else it is
+-- in. Then the next by the same test among those still possible. The mask has those that are in.
 unfoldable pub chosen : ℕ → Request → List ℕ → ℕ
 chosen K a [] = 0
 chosen K a (c ∷ cs) = cond (saysYes (grounded K (leaving c a))) (chosen K (leaving c a) cs) (bitOr (2 ^ c) (chosen K (keeping c a) cs))
