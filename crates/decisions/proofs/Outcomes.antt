@@ -47,7 +47,7 @@ module _ (K : ℕ) (a : Request) where
 
   -- ---- what Item 5 changes: of the outcomes allowed before it one is left
 
-  -- the verdict's, and with yes any mask that may be shown
+  -- the verdict's, and with yes any answer set that obeys the assumptions
   pub record BaseOutcome (r : Outcome) : Type 0 where
     pub verdict : verdictOf r ≡ grounded K a
     pub shows : (m : ℕ) → r ≡ Yes m → Shows K a m
@@ -70,7 +70,7 @@ module _ (K : ℕ) (a : Request) where
     stopped-outcome h = grounded-outcome (grounded-stopped firstWords K a passed h)
 
     module _ {us : List (List (Valued Pair ℕ))} (left : valuedWalk (pairs K) firstWords (a .subsetLimit) K a ≡ walked us) where
-      -- the mask of the least value is the first that may be shown, and so the one that the definition chooses
+      -- the mask of the least value is the first answer set, and so the one that the definition chooses
       pub yes-outcome : (v : ℕ) → leastIn K (newest us) ≡ worth v → Yes (shownBy (z .atoms) v) ≡ groundedOutcome K a
       yes-outcome v h =
           let (y, s) = first-shown K a passed left v h in

@@ -1,4 +1,4 @@
--- The first of the masks that may be shown, from the table that carries first values. Assumes nothing.
+-- The first answer set that obeys the assumptions, from the table that carries first values. Assumes nothing.
 use mathlib.Core.Path.{_≡_, refl, sym, ap, _∙_, subst}
 use mathlib.Core.List.{List, [], _∷_, List·Memᴰ·head, List·Memᴰ·tail}
 use Prim.Native.Nat.{ℕ, _≤_}

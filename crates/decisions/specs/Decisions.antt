@@ -91,7 +91,7 @@ treeOf r = firstTree (actAll trees 0 (map (λ c. c .command) (commandsIn r)) [])
 unfoldable pub expressionOf : ℕ → List ℕ → Expr
 expressionOf K s = treeOf (reading K s)
 
--- a mask that may be shown with yes: an answer set that obeys the assumptions, with no bit beyond the atoms
+-- a mask is an answer set that obeys the assumptions, with no bit beyond the atoms
 pub record Shows (K : ℕ) (a : Request) (m : ℕ) : Type 0 where
   pub within : m < 2 ^ length (numbers (expressionOf K (a .bytes)))
   pub obeys : Obeys (assumed a) (numbers (expressionOf K (a .bytes))) (ofMask m)

@@ -70,7 +70,7 @@ module _ (K : ℕ) (a : Request) where
     pub byCheck : (n at : ℕ) → check K a ≡ Refused n at → v ≡ refused n at
     pub byTable : (z : Counts) → check K a ≡ Passed z → (n at : ℕ) → (v ≡ refused n at) ↔ FirstExceeding n at
 
-  -- of an outcome: that of its verdict, and yes shows the first mask that may be shown
+  -- of an outcome: that of its verdict, and yes shows the first answer set that obeys the assumptions
   pub record Demand3Shown (r : Outcome) : Type 0 where
     pub verdict : Demand3 (verdictOf r)
     pub shows : (m : ℕ) → r ≡ Yes m → FirstShown K a m

@@ -37,7 +37,7 @@ chosen K a (c ∷ cs) = cond (saysYes (grounded K (leaving c a))) (chosen K (lea
 unfoldable pub firstMask : ℕ → Request → ℕ
 firstMask K a = chosen K a (run 0 (length (numbers (expressionOf K (a .bytes)))))
 
--- by the rules: a mask that may be shown, and no answer set that obeys the assumptions comes before it
+-- by the rules: a mask is an answer set that obeys the assumptions, and no other of those comes before it
 pub record FirstShown (K : ℕ) (a : Request) (m : ℕ) : Type 0 where
   pub shows : Shows K a m
   pub first : (q : Interpretation) → Obeys (assumed a) (numbers (expressionOf K (a .bytes))) q → AnswerSet (expressionOf K (a .bytes)) q
