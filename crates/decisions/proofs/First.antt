@@ -4,14 +4,13 @@ use mathlib.Core.Path.{_≡_, refl, sym, ap, ap₂, _∙_, subst}
 use mathlib.Core.Logic.{⊎-elim}
 use mathlib.Core.Bool.{Bool, true, false, _||_, or-true, true≢false}
 use mathlib.Core.List.{List, [], _∷_, List·Memᴰ, List·Memᴰ·head, List·Memᴰ·tail, List·Memᴰ·not-nil, List·Memᴰ·cases-cons}
-use Prim.Native.Nat.{ℕ, _^_, _<_, zero-le}
-use native.Mathlib.Nat.{zero-add}
+use Prim.Native.Nat.{ℕ, _^_, _<_}
 use native.Mathlib.Omega.{arith}
 use lib.Bits.{bitOr}
 use lib.Dec.{eqb, ltb}
 use lib.ListN.{length}
-use borrow.Author.Tests.{eq-eqb, ne-eqb, eqb-true, ltb-true, ltb-false}
-use Rattle.lists.proofs.Runs.{run-in, run-bounds}
+use borrow.Author.Tests.{eq-eqb, ne-eqb, eqb-true, ltb-false}
+use Rattle.lists.proofs.Runs.{run-bounds}
 use Rattle.labels.specs.Sets.{has}
 use Rattle.labels.proofs.Sets.{has-or, has-pow, has-lt, has-ge, set-ext}
 use Rattle.expression.specs.Checks.{Request}
@@ -27,7 +26,7 @@ use Rattle.decisions.specs.First.{assuming, leaving, keeping, saysYes, c
 use Rattle.decisions.proofs.Walks.{Settled}
 use Rattle.decisions.proofs.Demands.{shows-of, grounded-affirmed}
 use Rattle.decisions.proofs.Shown.{not-before-agree}
-use Rattle.decisions.proofs.Pins.{More, obeys-less, affirmed-numbers, affirmed-pins, pins-yes}
+use Rattle.decisions.proofs.Assuming.{More, obeys-less, affirmed-numbers, affirmed-there, affirmed-assumed, assuming-affirmed}
 
 -- ---- two of which neither comes before the other are one
 
@@ -43,7 +42,7 @@ not-before-both (x ∷ xs) p q f g =
     same true false f g = f refl
     same false d f g = sym (g refl)
 
--- ---- one pin more
+-- ---- one assumption more
 
 added : (c x d : ℕ) → has d (bitOr (2 ^ c) x) ≡ (eqb d c || has d x)
 added c x d = has-or d (2 ^ c) x ∙ ap (λ b. b || has d x) (has-pow d c)
@@ -106,18 +105,18 @@ module _ (K : ℕ) (a : Request) where
     below : c < n
     below = let b = run-bounds 0 n (subst (List·Memᴰ c) (affirmed-numbers K a h) here) in omega (arith, b .1)
 
-    -- with it pinned as some answer set has it the answer is still yes
+    -- with it assumed as some answer set has it the answer is still yes
     leaving-yes : q c ≡ false → grounded K (leaving c a) ≡ affirmed
     unfolding assumed
     leaving-yes z =
-        let pins = affirmed-pins K a h in
-        pins-yes K a h (a .assumedTrue) (bitOr (2 ^ c) (a .assumedFalse)) (pins .0) (added-lt c (a .assumedFalse) n below (pins .1)) (more-out c _ _) q (obeys-out c _ _ (numbers e) q k z) s
+        let there = affirmed-assumed K a h in
+        assuming-affirmed K a h (a .assumedTrue) (bitOr (2 ^ c) (a .assumedFalse)) (there .0) (added-lt c (a .assumedFalse) n below (there .1)) (more-out c _ _) q (obeys-out c _ _ (numbers e) q k z) s
 
     keeping-yes : q c ≡ true → grounded K (keeping c a) ≡ affirmed
     unfolding assumed
     keeping-yes z =
-        let pins = affirmed-pins K a h in
-        pins-yes K a h (bitOr (2 ^ c) (a .assumedTrue)) (a .assumedFalse) (added-lt c (a .assumedTrue) n below (pins .0)) (pins .1) (more-in c _ _) q (obeys-in c _ _ (numbers e) q k z) s
+        let there = affirmed-assumed K a h in
+        assuming-affirmed K a h (bitOr (2 ^ c) (a .assumedTrue)) (a .assumedFalse) (added-lt c (a .assumedTrue) n below (there .0)) (there .1) (more-in c _ _) q (obeys-in c _ _ (numbers e) q k z) s
 
     -- so where the decision does not say yes with it left out, every answer set keeps it
     kept : saysYes (grounded K (leaving c a)) ≡ false → q c ≡ true
@@ -137,7 +136,7 @@ module _ (K : ℕ) (a : Request) where
 -- ---- all atoms
 
 module _ (K : ℕ) (a : Request) where
-  -- of the answer sets that obey the pins i and o this one comes first by the atoms cs, and what is chosen is its mask
+  -- of the answer sets that obey the assumptions this one comes first by the atoms cs, and what is chosen is its mask
   record Chosen (i o : ℕ) (cs : List ℕ) : Type 0 where
     found : FoundAnswerSet (byMasks i o) (e K a)
     is : chosen K (assuming i o a) cs ≡ maskOf (found .by) cs
@@ -198,10 +197,10 @@ module _ (K : ℕ) (a : Request) where
         same = not-before-both (numbers (e K a)) (ofMask m) (ofMask m′) (f .first (ofMask m′) (g .shows .obeys) (g .shows .answerSet)) (g .first (ofMask m) (f .shows .obeys) (f .shows .answerSet))
 
         step : (c : ℕ) (b : Bool) → ltb c (length (numbers (e K a))) ≡ b → has c m ≡ has c m′
-        step c true l = same c (subst (List·Memᴰ c) (sym (affirmed-numbers K a h)) (run-in 0 (length (numbers (e K a))) zero-le (rw zero-add (ltb-true c _ l))))
+        step c true l = same c (affirmed-there K a h c l)
         step c false l = let k = ltb-false c _ l in has-ge c _ m (f .shows .within) k ∙ sym (has-ge c _ m′ (g .shows .within) k)
 
--- ---- one policy with one set of pins has one plan, under whatever limits and in whatever room it is decided
+-- ---- one expression with one set of assumptions has one mask, under whatever limits and in whatever room it is decided
 
 module _ (K : ℕ) (a : Request) (P G room : ℕ) where
   abbrev elsewhere : Request

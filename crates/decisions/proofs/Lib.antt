@@ -5,7 +5,7 @@ pub mod Shown
 pub mod Starred
 pub mod Carried
 pub mod Exceeding
-pub mod Pins
+pub mod Assuming
 pub mod First
 pub mod Words
 pub mod Outcomes

@@ -1,5 +1,5 @@
--- More pins: where they pin copies that the sheet has and clash with none, every check passes as before, and no table on the way exceeds a limit that it
--- kept before; so they never raise 15 or 16. Assumes nothing.
+-- More assumptions (01: pins) on a request: where they are on atoms that are there and none is in both, every check passes as before, and no table on the
+-- way exceeds a limit that it kept before; so they never raise 15 or 16. Assumes nothing.
 use mathlib.Core.Path.{_≡_, refl, sym, ap, _∙_, subst}
 use mathlib.Core.Logic.{inl, inr}
 use mathlib.Core.Bool.{Bool, true, false, _&&_, true≢false}
@@ -64,9 +64,9 @@ module _ (K P G : ℕ) {o o′ : Assumptions} (M : More o o′) where
 
 module _ (K : ℕ) (a : Request) {z : Counts} (passed : check K a ≡ Passed z) (i o : ℕ) (trueThere : i < 2 ^ z .atoms) (falseThere : o < 2 ^ z .atoms) (apart : bitAnd i o ≡ 0) where
   -- the checks pass as before
-  pub check-pins : check K (assuming i o a) ≡ Passed z
+  pub assuming-passes : check K (assuming i o a) ≡ Passed z
   unfolding check checks absentTest clashTest firstOf
-  check-pins = rw (there i trueThere, there o falseThere, eq-eqb (bitAnd i o) 0 apart) (rw (there (a .assumedTrue) (A .trueThere), there (a .assumedFalse) (A .falseThere), eq-eqb (bitAnd (a .assumedTrue) (a .assumedFalse)) 0 (A .apart)) at passed)
+  assuming-passes = rw (there i trueThere, there o falseThere, eq-eqb (bitAnd i o) 0 apart) (rw (there (a .assumedTrue) (A .trueThere), there (a .assumedFalse) (A .falseThere), eq-eqb (bitAnd (a .assumedTrue) (a .assumedFalse)) 0 (A .apart)) at passed)
     where
       A : Accepted K a z
       A = check-accepted K a z passed
@@ -78,15 +78,15 @@ module _ (K : ℕ) (a : Request) {z : Counts} (passed : check K a ≡ Passed z) 
       there x l = ap (λ n. ltb x (2 ^ n)) atoms ∙ lt-ltb x (2 ^ z .atoms) l
 
   -- and no table on the way exceeds the limits
-  pub pins-settled : More (assumed a) (byMasks i o) → Settled (grounded K a) → Settled (grounded K (assuming i o a))
+  pub assuming-settled : More (assumed a) (byMasks i o) → Settled (grounded K a) → Settled (grounded K (assuming i o a))
   unfolding assumed
-  pins-settled M s = within-settled K (assuming i o a) (record {
+  assuming-settled M s = within-settled K (assuming i o a) (record {
     counts = z;
-    passed = check-pins;
+    passed = assuming-passes;
     none = λ k l h. settled-within K a s .none k l (after-exceeds K (a .pairLimit) (a .subsetLimit) M (take (suc k) (commands K a)) h);
   })
 
--- ---- more pins on a request that is affirmed
+-- ---- more assumptions on a request that is affirmed
 
 module _ (K : ℕ) (a : Request) (h : grounded K a ≡ affirmed) where
   abbrev e : Expr
@@ -107,26 +107,26 @@ module _ (K : ℕ) (a : Request) (h : grounded K a ≡ affirmed) where
   pub affirmed-numbers : numbers e ≡ run 0 n
   affirmed-numbers = tree-numbers K a (within .passed) ∙ ap (run 0) (sym atoms)
 
-  pub affirmed-pins : (a .assumedTrue < 2 ^ n) × (a .assumedFalse < 2 ^ n)
-  affirmed-pins = let A = check-accepted K a (within .counts) (within .passed) in rw atoms (A .trueThere, A .falseThere)
+  pub affirmed-assumed : (a .assumedTrue < 2 ^ n) × (a .assumedFalse < 2 ^ n)
+  affirmed-assumed = let A = check-accepted K a (within .counts) (within .passed) in rw atoms (A .trueThere, A .falseThere)
 
-  -- where some answer set obeys them, they clash with none, and the answer is still yes
-  pub pins-yes : (i o : ℕ) → i < 2 ^ n → o < 2 ^ n → More (assumed a) (byMasks i o) → (p : Interpretation) → Obeys (byMasks i o) (numbers e) p → AnswerSet e p
+  pub affirmed-there : (c : ℕ) → ltb c n ≡ true → List·Memᴰ c (numbers e)
+  affirmed-there c l = subst (List·Memᴰ c) (sym affirmed-numbers) (run-in 0 n zero-le (rw zero-add (ltb-true c n l)))
+
+  -- where some answer set obeys them, none is in both, and the answer is still yes
+  pub assuming-affirmed : (i o : ℕ) → i < 2 ^ n → o < 2 ^ n → More (assumed a) (byMasks i o) → (p : Interpretation) → Obeys (byMasks i o) (numbers e) p → AnswerSet e p
       → grounded K (assuming i o a) ≡ affirmed
   unfolding assumed byMasks
-  pins-yes i o l r M p k s =
-      let still = pins-settled K a (within .passed) i o (rw (sym atoms) l) (rw (sym atoms) r) (has-none-zero (bitAnd i o) (λ c. has-and c i o ∙ step c (ltb c n) refl)) M settled in
+  assuming-affirmed i o l r M p k s =
+      let still = assuming-settled K a (within .passed) i o (rw (sym atoms) l) (rw (sym atoms) r) (has-none-zero (bitAnd i o) (λ c. has-and c i o ∙ step c (ltb c n) refl)) M settled in
       demand3 K (assuming i o a) .yes (settled-within K (assuming i o a) still) .1 (λ none. none p k s)
     where
-      -- no copy is in both: it would be in p and out
+      -- it would be in p and out
       step : (c : ℕ) (b : Bool) → ltb c n ≡ b → (has c i && has c o) ≡ false
       step c true g = both (has c i) (has c o) refl refl
         where
-          there : List·Memᴰ c (numbers e)
-          there = subst (List·Memᴰ c) (sym affirmed-numbers) (run-in 0 n zero-le (rw zero-add (ltb-true c n g)))
-
           both : (x y : Bool) → has c i ≡ x → has c o ≡ y → (x && y) ≡ false
-          both true true u v = absurd (true≢false (sym (k .has-trues c there u) ∙ k .lacks-falses c there v))
+          both true true u v = absurd (true≢false (sym (k .has-trues c (affirmed-there c g) u) ∙ k .lacks-falses c (affirmed-there c g) v))
           both true false u v = refl
           both false y u v = refl
       step c false g = ap (λ b. b && has c o) (has-ge c n i l (ltb-false c n g))
