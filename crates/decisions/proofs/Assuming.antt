@@ -1,10 +1,10 @@
--- More assumptions (01: pins) on a request: where they are on atoms that are there and none is in both, every check passes as before, and no table on the
--- way exceeds a limit that it kept before; so they never raise 15 or 16. Assumes nothing.
+-- More assumptions (01: pins) on a request: no table on the way exceeds a limit that it kept before, so they never raise 15 or 16; and where they are on
+-- atoms that are there and none is in both, every check passes as before. Assumes nothing.
 use mathlib.Core.Path.{_≡_, refl, sym, ap, _∙_, subst}
 use mathlib.Core.Logic.{inl, inr}
 use mathlib.Core.Bool.{Bool, true, false, _&&_, true≢false}
 use mathlib.Core.List.{List, [], _∷_, map, List·Memᴰ}
-use Prim.Native.Nat.{ℕ, suc, _^_, _<_, zero-le}
+use Prim.Native.Nat.{ℕ, suc, _^_, _≤_, _<_, zero-le}
 use native.Mathlib.Nat.{zero-add}
 use native.Mathlib.Omega.{arith}
 use lib.Bits.{bitAnd}
@@ -16,10 +16,13 @@ use Rattle.lists.proofs.Runs.{length-run, run-in}
 use Rattle.labels.specs.Sets.{has}
 use Rattle.labels.proofs.Sets.{has-and, has-none-zero, has-ge}
 use Rattle.expression.specs.declared.Counts.{Counts}
-use Rattle.expression.specs.declared.Checked.the-variants.{Passed}
+use Rattle.expression.specs.declared.Checked.{Checked}
+use Rattle.expression.specs.declared.Checked.the-variants.{Passed, Refused}
+use Rattle.expression.specs.Refusals.{absent}
 use Rattle.expression.specs.Reading.{Placed, reading}
 use Rattle.expression.specs.Checks.{Request, firstOf, countsOf, absentTest, clashTest, checks, check}
 use Rattle.expression.proofs.Accepted.{Accepted, check-accepted}
+use Rattle.expression.proofs.Numbers.{check-number}
 use Rattle.semantics.specs.Expressions.{Expr, actAll, trees}
 use Rattle.semantics.specs.Programs.{numbers}
 use Rattle.semantics.specs.AnswerSets.{Interpretation, Assumptions, Obeys, AnswerSet, byMasks}
@@ -29,10 +32,11 @@ use Rattle.tables.specs.Algebras.{tables, table}
 use Rattle.tables.specs.Definitions.{pairs}
 use Rattle.tables.proofs.Entries.{table-part, table-part-length}
 use Rattle.tables.proofs.Answers.{pairs-lawful}
-use Rattle.decisions.specs.Decisions.{affirmed, assumed, newest, grounded, expressionOf}
+use Rattle.decisions.specs.Decisions.{affirmed, refused, assumed, newest, grounded, expressionOf}
 use Rattle.decisions.specs.First.{assuming}
 use Rattle.decisions.specs.Exceeding.{Exceeds, commands, WithinLimits}
 use Rattle.decisions.proofs.Walks.{Settled, tables-after}
+use Rattle.decisions.proofs.Carried.{grounded-refused}
 use Rattle.decisions.proofs.Words.{tree-numbers}
 use Rattle.decisions.proofs.Exceeding.{within-settled, settled-within, demand3}
 
@@ -77,14 +81,23 @@ module _ (K : ℕ) (a : Request) {z : Counts} (passed : check K a ≡ Passed z) 
       there : (x : ℕ) → x < 2 ^ z .atoms → ltb x (2 ^ countsOf (reading K (a .bytes)) .atoms) ≡ true
       there x l = ap (λ n. ltb x (2 ^ n)) atoms ∙ lt-ltb x (2 ^ z .atoms) l
 
-  -- and no table on the way exceeds the limits
-  pub assuming-settled : More (assumed a) (byMasks i o) → Settled (grounded K a) → Settled (grounded K (assuming i o a))
+module _ (K : ℕ) (a : Request) (s : Settled (grounded K a)) (i o : ℕ) (M : More (assumed a) (byMasks i o)) where
+  -- where they pass, no table on the way exceeds the limits
+  pub assuming-settled : {z : Counts} → check K (assuming i o a) ≡ Passed z → Settled (grounded K (assuming i o a))
   unfolding assumed
-  assuming-settled M s = within-settled K (assuming i o a) (record {
+  assuming-settled {z} h = within-settled K (assuming i o a) (record {
     counts = z;
-    passed = assuming-passes;
-    none = λ k l h. settled-within K a s .none k l (after-exceeds K (a .pairLimit) (a .subsetLimit) M (take (suc k) (commands K a)) h);
+    passed = h;
+    none = λ k l x. settled-within K a s .none k l (after-exceeds K (a .pairLimit) (a .subsetLimit) M (take (suc k) (commands K a)) x);
   })
+
+  -- 02, Item 5: never raises 15 or 16. What refuses then is a check
+  pub assuming-number : {n at : ℕ} → grounded K (assuming i o a) ≡ refused n at → n ≤ absent
+  assuming-number {n} {at} g = checked (check K (assuming i o a)) refl
+    where
+      checked : (c : Checked) → check K (assuming i o a) ≡ c → n ≤ absent
+      checked (Passed z) h = absurd (subst Settled g (assuming-settled h))
+      checked (Refused m p) h = let q = sym (grounded-refused K (assuming i o a) h) ∙ g in let e : m ≡ n = cc in subst (λ x. x ≤ absent) e (check-number K (assuming i o a) h)
 
 -- ---- more assumptions on a request that is affirmed
 
@@ -118,7 +131,8 @@ module _ (K : ℕ) (a : Request) (h : grounded K a ≡ affirmed) where
       → grounded K (assuming i o a) ≡ affirmed
   unfolding assumed byMasks
   assuming-affirmed i o l r M p k s =
-      let still = assuming-settled K a (within .passed) i o (rw (sym atoms) l) (rw (sym atoms) r) (has-none-zero (bitAnd i o) (λ c. has-and c i o ∙ step c (ltb c n) refl)) M settled in
+      let passes = assuming-passes K a (within .passed) i o (rw (sym atoms) l) (rw (sym atoms) r) (has-none-zero (bitAnd i o) (λ c. has-and c i o ∙ step c (ltb c n) refl)) in
+      let still = assuming-settled K a settled i o M passes in
       demand3 K (assuming i o a) .yes (settled-within K (assuming i o a) still) .1 (λ none. none p k s)
     where
       -- it would be in p and out

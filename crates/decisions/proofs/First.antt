@@ -4,7 +4,7 @@ use mathlib.Core.Path.{_≡_, refl, sym, ap, ap₂, _∙_, subst}
 use mathlib.Core.Logic.{⊎-elim}
 use mathlib.Core.Bool.{Bool, true, false, _||_, or-true, true≢false}
 use mathlib.Core.List.{List, [], _∷_, List·Memᴰ, List·Memᴰ·head, List·Memᴰ·tail, List·Memᴰ·not-nil, List·Memᴰ·cases-cons}
-use Prim.Native.Nat.{ℕ, _^_, _<_}
+use Prim.Native.Nat.{ℕ, _^_, _≤_, _<_}
 use native.Mathlib.Omega.{arith}
 use lib.Bits.{bitOr}
 use lib.Dec.{eqb, ltb}
@@ -13,6 +13,7 @@ use borrow.Author.Tests.{eq-eqb, ne-eqb, eqb-true, ltb-false}
 use Rattle.lists.proofs.Runs.{run-bounds}
 use Rattle.labels.specs.Sets.{has}
 use Rattle.labels.proofs.Sets.{has-or, has-pow, has-lt, has-ge, set-ext}
+use Rattle.expression.specs.Refusals.{absent}
 use Rattle.expression.specs.Checks.{Request}
 use Rattle.semantics.specs.Expressions.{Expr}
 use Rattle.semantics.specs.Programs.{numbers}
@@ -26,7 +27,7 @@ use Rattle.decisions.specs.First.{assuming, leaving, keeping, saysYes, c
 use Rattle.decisions.proofs.Walks.{Settled}
 use Rattle.decisions.proofs.Demands.{shows-of, grounded-affirmed}
 use Rattle.decisions.proofs.Shown.{not-before-agree}
-use Rattle.decisions.proofs.Assuming.{More, obeys-less, affirmed-numbers, affirmed-there, affirmed-assumed, assuming-affirmed}
+use Rattle.decisions.proofs.Assuming.{More, obeys-less, affirmed-numbers, affirmed-there, affirmed-assumed, assuming-number, assuming-affirmed}
 
 -- ---- two of which neither comes before the other are one
 
@@ -97,6 +98,11 @@ saysYes-is (refused n at) h = absurd (true≢false (sym h))
 module _ (K : ℕ) (a : Request) where
   abbrev e : Expr
   e = expressionOf K (a .bytes)
+
+  -- 02: finding the plan never raises 15 or 16: where the test of an atom is refused, a check refuses (an atom that is assumed true clashes)
+  pub leaving-number : grounded K a ≡ affirmed → (c : ℕ) {n at : ℕ} → grounded K (leaving c a) ≡ refused n at → n ≤ absent
+  unfolding assumed
+  leaving-number h c g = assuming-number K a (subst Settled (sym h) tt) (a .assumedTrue) (bitOr (2 ^ c) (a .assumedFalse)) (more-out c _ _) g
 
   module _ (c : ℕ) (here : List·Memᴰ c (numbers e)) (h : grounded K a ≡ affirmed) (q : Interpretation) (k : Obeys (assumed a) (numbers e) q) (s : AnswerSet e q) where
     abbrev n : ℕ
