@@ -37,7 +37,7 @@ use Rattle.decisions.specs.First.{assuming}
 use Rattle.decisions.specs.Exceeding.{Exceeds, commands, WithinLimits}
 use Rattle.decisions.proofs.Walks.{Settled, tables-after}
 use Rattle.decisions.proofs.Carried.{grounded-refused}
-use Rattle.decisions.proofs.Words.{tree-numbers}
+use Rattle.decisions.proofs.Words.{read-atoms, tree-numbers}
 use Rattle.decisions.proofs.Exceeding.{within-settled, settled-within, demand3}
 
 -- o′ assumes what o assumes, and perhaps more
@@ -75,11 +75,8 @@ module _ (K : ℕ) (a : Request) {z : Counts} (passed : check K a ≡ Passed z) 
       A : Accepted K a z
       A = check-accepted K a z passed
 
-      atoms : countsOf (reading K (a .bytes)) .atoms ≡ z .atoms
-      atoms = unfold countsOf in (ap (λ r. countsOf r .atoms) (A .joined .read))
-
       there : (x : ℕ) → x < 2 ^ z .atoms → ltb x (2 ^ countsOf (reading K (a .bytes)) .atoms) ≡ true
-      there x l = ap (λ n. ltb x (2 ^ n)) atoms ∙ lt-ltb x (2 ^ z .atoms) l
+      there x l = ap (λ n. ltb x (2 ^ n)) (read-atoms K a passed) ∙ lt-ltb x (2 ^ z .atoms) l
 
 module _ (K : ℕ) (a : Request) (s : Settled (grounded K a)) (i o : ℕ) (M : More (assumed a) (byMasks i o)) where
   -- where they pass, no table on the way exceeds the limits

@@ -8,6 +8,7 @@ use native.Mathlib.Omega.{arith}
 use Rattle.lists.specs.Lists.{run}
 use Rattle.expression.specs.declared.Counts.{Counts}
 use Rattle.expression.specs.declared.Checked.the-variants.{Passed}
+use Rattle.expression.specs.Reading.{reading}
 use Rattle.expression.specs.Checks.{Request, countsOf, check}
 use Rattle.expression.proofs.Accepted.{check-accepted}
 use Rattle.semantics.specs.Programs.{numbers}
@@ -42,10 +43,13 @@ module _ (K : ℕ) (a : Request) {z : Counts} (passed : check K a ≡ Passed z) 
   tree : Tree K (a .bytes)
   tree = tree-of K a (check-readable K a passed)
 
-  -- the atoms that the checks counted are the tree's
-  tree-atoms : tree .count ≡ z .atoms
+  -- the atoms that the checks counted are the reading's, and the tree's
+  pub read-atoms : countsOf (reading K (a .bytes)) .atoms ≡ z .atoms
   unfolding countsOf
-  tree-atoms = sym (tree .counted) ∙ ap (λ r. countsOf r .atoms) (check-accepted K a z passed .joined .read)
+  read-atoms = ap (λ r. countsOf r .atoms) (check-accepted K a z passed .joined .read)
+
+  tree-atoms : tree .count ≡ z .atoms
+  tree-atoms = sym (tree .counted) ∙ read-atoms
 
   pub tree-numbers : numbers (expressionOf K (a .bytes)) ≡ run 0 (z .atoms)
   tree-numbers = tree .numbered ∙ ap (run 0) tree-atoms

@@ -101,7 +101,7 @@ fn fitted(a: Answer, q: Request) -> Answer {
 fn enumerate(p: Policy, q: Request) -> Answer {
     let mut k: u64 = 0;
     while k < 128 {
-        let mask = turned(k);
+        let mask = reversed(k);
         if is_answer(p, q, mask) {
             return answered(YES, shown(q, mask), 0);
         }
@@ -110,8 +110,8 @@ fn enumerate(p: Policy, q: Request) -> Answer {
     answered(NO, 0, 0)
 }
 
-// The seven digits of k in turned order. As k rises, what leaves atom 0 out comes first, then atom 1 likewise, and so on (02, Item 5).
-fn turned(k: u64) -> u64 {
+// The seven binary digits of k in reversed order. As k rises, what leaves atom 0 out comes first, then atom 1 likewise, and so on (02, Item 5).
+fn reversed(k: u64) -> u64 {
     (k >> 6 & 1)
         | (k >> 4 & 2)
         | (k >> 2 & 4)
