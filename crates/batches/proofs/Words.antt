@@ -2,10 +2,12 @@
 use mathlib.Core.Path.{_≡_, refl, sym, ap, ap₂, _∙_}
 use mathlib.Core.Bool.{Bool, true, false, cond, not, _&&_, _||_, or-true}
 use mathlib.Core.List.{List, [], _∷_, map}
-use Prim.Native.Nat.{ℕ, _+_, _-_, _*_, _^_, _≤_, _<_}
+use Prim.Native.Nat.{ℕ, zero, suc, _+_, _-_, _*_, _%_, _^_, _≤_, _<_}
+use native.Mathlib.Omega.{arith}
 use native.Mathlib.Numerals.{add-one}
-use lib.Bits.{bitOr}
-use lib.Dec.{eqb}
+use lib.Bits.{bitOr, and-le-r, or-add-and, or-zero-r}
+use lib.Dec.{eqb, eqb·suc-zero}
+use mir.Val.{boolByte}
 use borrow.Author.Tests.{eq-eqb, ne-eqb, lt-ltb, le-ltb}
 use lib.ListN.{length, drop, getD, drop-of-length-le}
 use lib.Seq.{drop-cons}
@@ -19,6 +21,7 @@ use Rattle.tables.specs.Triples.{markU, relabelTriple}
 use Rattle.candidates.specs.Candidates.{mapTriple}
 use Rattle.batches.specs.declared.Judge.{Judge}
 use Rattle.batches.specs.Batches.{commandOf, stepTriple, isMet, judgesFrom, settled, judgeOf, judgeTriple, wordTriple, wordStep, wordSteps}
+use Rattle.batches.proofs.Steps.{marked}
 
 -- ---- a rule, by its tests
 
@@ -45,14 +48,34 @@ taken-out u r = go (with-has u r) ∙ without-or u r
 pub mark-within : (g r : ℕ) → 2 ^ (2 * labelCount + g) ≤ bitOr r (2 ^ (2 * labelCount + g))
 mark-within g r = has-le (2 * labelCount + g) (bitOr r (2 ^ (2 * labelCount + g))) (with-has (2 * labelCount + g) r)
 
-module _ (K g h q r : ℕ) (b : Bool) (y z : ℕ) (f : z ≡ mapTriple K (Relabel g h) q y) where
-  pub met-rule : b ≡ true → y ≡ without (2 * K + g) r → z ≡ settled K g h b r
-  unfolding mapTriple settled
-  met-rule t e = f ∙ ap (relabelTriple K g h) (e ∙ ap (λ (d : Bool). cond d (without (2 * K + g) r) (bitOr r (markU K g))) (sym t))
+-- put in, whether it was there or not
+or-without : (u r : ℕ) → bitOr (without u r) (2 ^ u) ≡ bitOr r (2 ^ u)
+or-without u r = set-ext (bitOr (without u r) (2 ^ u)) (bitOr r (2 ^ u)) (λ m. has-or m (without u r) (2 ^ u) ∙ ap₂ _||_ (has-without u m r) (has-pow m u) ∙ step (has m r) (eqb m u) ∙ sym (has-or m r (2 ^ u) ∙ ap (λ b. has m r || b) (has-pow m u)))
+  where
+    step : (a b : Bool) → ((a && not b) || b) ≡ (a || b)
+    step true true = refl
+    step true false = refl
+    step false true = refl
+    step false false = refl
 
-  pub unmet-rule : b ≡ false → y ≡ bitOr r (markU K g) → z ≡ settled K g h b r
-  unfolding mapTriple settled
-  unmet-rule t e = f ∙ ap (relabelTriple K g h) (e ∙ ap (λ (d : Bool). cond d (without (2 * K + g) r) (bitOr r (markU K g))) (sym t))
+-- one test of two sets: a union has a number where one of them has
+pub or-none : (a b : ℕ) → not (eqb (bitOr a b) 0) ≡ (not (eqb a 0) || not (eqb b 0))
+or-none zero b = refl
+or-none (suc a) b = rw (ne-eqb (bitOr (suc a) b) 0 (λ e. omega (arith, or-add-and (suc a) b, and-le-r (suc a) b, e)), eqb·suc-zero a)
+
+-- the mark of a rule in a word, unless it is met
+pub unmet-marked : (b : Bool) (r g : ℕ) → g < labelCount → bitOr r ((boolByte (not b) * 2 ^ (2 * labelCount + g)) % 2 ^ 32) ≡ cond b r (bitOr r (markU labelCount g))
+unmet-marked true r g l = let e : (0 * 2 ^ (2 * labelCount + g)) % 2 ^ 32 ≡ 0 = omega arith in ap (bitOr r) e ∙ or-zero-r r
+unmet-marked false r g l = marked r g l
+
+-- taken out, then put in unless the rule is met
+pub mark-settled : (K g h q r : ℕ) (b : Bool) (x y z : ℕ) → x ≡ without (2 * K + g) r → y ≡ cond b x (bitOr x (markU K g)) → z ≡ mapTriple K (Relabel g h) q y → z ≡ settled K g h b r
+unfolding mapTriple settled markU
+mark-settled K g h q r b x y z e f k = k ∙ ap (relabelTriple K g h) (f ∙ ap (λ x. cond b x (bitOr x (2 ^ (2 * K + g)))) e ∙ go b)
+  where
+    go : (d : Bool) → cond d (without (2 * K + g) r) (bitOr (without (2 * K + g) r) (2 ^ (2 * K + g))) ≡ cond d (without (2 * K + g) r) (bitOr r (2 ^ (2 * K + g)))
+    go true = refl
+    go false = or-without (2 * K + g) r
 
 module _ (K : ℕ) (j : Judge) (q r : ℕ) (b : Bool) (e : b ≡ isMet j q r) where
   pub label-settled : (z : ℕ) → j .leaves ≡ 0 → z ≡ settled K (j .label) (j .after) b r → z ≡ judgeTriple K j q r

@@ -3,6 +3,7 @@
 use expression::Command;
 use expression::Kind;
 ghost use mathlib.Core.Path.{_≡_};
+ghost use mathlib.Core.Bool.{cond};
 ghost use mathlib.Core.List.{_∷_, map};
 ghost use Prim.Native.Nat.{_+_, _*_, _≤_, _<_};
 ghost use lib.Bits.{bitOr};
@@ -146,14 +147,11 @@ pub fn judge_of(w: u32) -> Judge
     }
 }
 
-// Whether the rule is met. Negative atoms count by the interpretation's own triple q, for the subsets too.
+// Whether the rule is met, by one test. Negative atoms count by the interpretation's own triple q, for the subsets too.
 fn is_met(j: Judge, q: u32, r: u32) -> bool
     ensures { λ b. ⌜ b ≡ isMet j q r ⌝ }
 {
-    if q & j.negative != 0 {
-        return true;
-    }
-    r & j.marks != 0
+    (q & j.negative) | (r & j.marks) != 0
 }
 
 // r without the mark of an unmet rule of label g. No branch: the triples of one row differ in it.
@@ -165,16 +163,21 @@ fn without_rule(g: u32, r: u32) -> u32
     (r | m) - m
 }
 
+// r with that mark unless the rule is met. No branch either.
+fn with_unmet(g: u32, met: bool, r: u32) -> u32
+    requires { ⌜ g < labelCount ⌝ }
+    ensures { λ s. ⌜ s ≡ cond met r (bitOr r (markU labelCount g)) ⌝ }
+{
+    r | ((!met as u32) << (2 * LABELS + g))
+}
+
 // Its label is out of U if it is met, else in U, and is relabelled then.
 fn settled(j: Judge, q: u32, r: u32, met: bool) -> u32
     requires { ⌜ Fits labelCount j ⌝ }
     ensures { λ s. ⌜ s ≡ settled labelCount (j .label) (j .after) met r ⌝ }
 {
     let c = Command::Relabel(j.label, j.after);
-    if met {
-        return candidates::map_triple(c, q, without_rule(j.label, r));
-    }
-    candidates::map_triple(c, q, with_rule(j.label, r))
+    candidates::map_triple(c, q, with_unmet(j.label, met, without_rule(j.label, r)))
 }
 
 // What the rule makes of a triple r, where q is the interpretation's own.
@@ -186,10 +189,7 @@ fn judge_triple(j: Judge, q: u32, r: u32) -> u32
     if j.leaves == 0 {
         return settled(j, q, r, met);
     }
-    if met {
-        return r;
-    }
-    with_rule(j.after, r)
+    with_unmet(j.after, met, r)
 }
 
 // Each triple as the rule makes it.

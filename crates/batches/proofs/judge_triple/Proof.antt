@@ -14,16 +14,11 @@ settled-requires c κs = search needs
 returns : tie.Need-returns
 returns c = label-settled labelCount _ _ _ _ (c .before .before .before .is-met .ensures) _ (c .before .if1 .taken) (c .settled .ensures)
 
+with-unmet-requires : tie.Need-with-unmet-requires
+with-unmet-requires c κs = search needs
+
 returns-2 : tie.Need-returns-2
-returns-2 c = let k = c .before in label-left labelCount _ _ _ _ (k .before .before .is-met .ensures) _ (k .if1 .left) (rw (c .if2 .taken))
-
-with-rule-requires : tie.Need-with-rule-requires
-with-rule-requires c κs = search needs
-
-returns-3 : tie.Need-returns-3
-returns-3 c = let k = c .before .before in label-left labelCount _ _ _ _ (k .before .before .is-met .ensures) _ (k .if1 .left) (rw (c .before .if2 .left) (c .with-rule .ensures))
+returns-2 c = let k = c .before in label-left labelCount _ _ _ _ (k .before .before .is-met .ensures) _ (k .if1 .left) (c .with-unmet .ensures)
 
 pub judge-triple-spec : {M : Type 1} → statement M
-judge-triple-spec =
-    tie.close
-    (tie.spec is-met-requires settled-requires returns returns-2 with-rule-requires returns-3)
+judge-triple-spec = tie.close (tie.spec is-met-requires settled-requires returns with-unmet-requires returns-2)
