@@ -27,7 +27,7 @@ C_BIN := $(C_OUT)/bin
 
 C_SUPPORT := tests/calls tests/lent tests/random tests/oracle tests/policy
 C_REFERENCE := bench/reference bench/tables
-C_TESTS := test_calls test_random test_walk test_sheets test_large test_stack told_host
+C_TESTS := test_calls test_random test_walk test_sheets test_large test_stack test_moves told_host
 
 test_calls_PARTS := tests/test_calls $(C_SUPPORT)
 test_random_PARTS := tests/test_random $(C_SUPPORT)
@@ -35,12 +35,13 @@ test_walk_PARTS := tests/test_walk $(C_SUPPORT)
 test_sheets_PARTS := tests/test_sheets examples/sheet_file $(C_SUPPORT)
 test_large_PARTS := tests/test_large bench/families $(C_REFERENCE) $(C_SUPPORT)
 test_stack_PARTS := tests/test_stack bench/families
+test_moves_PARTS := tests/test_moves tests/random
 bench_PARTS := bench/bench bench/families bench/clingo $(C_REFERENCE) tests/policy
 host_PARTS := examples/host examples/arguments examples/sheet_file
 told_host_PARTS := tests/told_engine $(host_PARTS)
 
-# Under the sanitizers stack frames are larger than the library's own. The listing program is the kit's to make ('rt check listing', and
-# 'rt ci' too); SKIP_LISTING=1 passes without it.
+# Under the sanitizers stack frames are larger than the library's own, and calls go through their memcpy: neither stack nor paths are looked at. The
+# listing program is the kit's to make ('rt check listing', and 'rt ci' too); SKIP_LISTING=1 passes without it.
 c-test: $(C_TESTS:%=$(C_BIN)/%) $(C_BIN)/host
 	$(C_BIN)/test_calls
 	$(C_BIN)/test_random
@@ -48,6 +49,8 @@ c-test: $(C_TESTS:%=$(C_BIN)/%) $(C_BIN)/host
 	$(C_BIN)/test_sheets examples/sheets/*.hex
 	$(C_BIN)/test_large
 	$(if $(SANITIZE),,$(C_BIN)/test_stack)
+	$(if $(SANITIZE),,$(C_BIN)/test_moves)
+	tests/test_loops.sh $(ARCHIVE)
 	$(C_BIN)/host examples/sheets/office.hex
 	tests/test_host.sh $(C_BIN)/host $(C_BIN)/told_host $(if $(SANITIZE),sanitized)
 	tests/test_listing.sh $(if $(SKIP_LISTING),--may-skip) target/bin/listing

@@ -222,21 +222,32 @@ static void print_head(void)
 }
 
 // By the archive alone, once.
-static int bench_longest(void)
+static int bench_once(const instance *x)
 {
-    static instance x;
     uint64_t plan;
-    question q = {&x, NULL};
-    longest_family(&x);
-    printf("%s, %zu bytes, P = G = %" PRIu64 ": ", x.family, x.sheet_len, x.plan_limit);
+    question q = {x, NULL};
+    printf("%s, %zu bytes, P = %" PRIu64 ", G = %" PRIu64 ": ", x->family, x->sheet_len, x->plan_limit, x->subset_limit);
     fflush(stdout);
     double start = seconds();
     int said = by_archive(&q, &plan);
-    printf("%s in %.0f s of processor time\n", said == 1 ? "yes" : said == 0 ? "no" : "refused", seconds() - start);
+    printf("%s in %.3f s of processor time\n", said == 1 ? "yes" : said == 0 ? "no" : "refused", seconds() - start);
     return said < 0;
 }
 
-// bench [--without-clingo | --longest] [family]: all families, or those whose names begin so.
+static int is_named(const instance *x, const char *name)
+{
+    return strncmp(x->family, name, strlen(name)) == 0;
+}
+
+static int bench_each_once(const instance *x, size_t n, const char *name)
+{
+    int refused = 0;
+    for (size_t k = 0; k < n; k++)
+        if (is_named(&x[k], name)) refused |= bench_once(&x[k]);
+    return refused;
+}
+
+// bench [--without-clingo | --once | --longest] [family]: all families, or those whose names begin so.
 int main(int arguments, char **argument)
 {
     static instance x[INSTANCES];
@@ -246,12 +257,13 @@ int main(int arguments, char **argument)
     n += long_families(x + n);
     workspace = calloc(NUNTENNIS_WORKSPACE_WORDS(1024, 1024), sizeof *workspace);
     memset(workspace, 1, NUNTENNIS_WORKSPACE_WORDS(1024, 1024) * sizeof *workspace);
-    if (strcmp(option, "--longest") == 0) return bench_longest();
+    if (strcmp(option, "--longest") == 0) return longest_family(x), bench_once(x);
+    if (strcmp(option, "--once") == 0) return bench_each_once(x, n, name);
     if (strcmp(option, "--without-clingo") != 0) clingo_begin();
     print_head();
     for (size_t k = 0, end; k < n; k = end) {
         for (end = k; end < n && x[end].family == x[k].family; end++) {}
-        if (strncmp(x[k].family, name, strlen(name)) == 0) bench_family(&x[k], end - k);
+        if (is_named(&x[k], name)) bench_family(&x[k], end - k);
     }
     printf("bench: all answers agree\n");
     return 0;

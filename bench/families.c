@@ -231,6 +231,37 @@ static void balanced(instance **next, const char *family, unsigned left, unsigne
     put_link(x, BARRING, 1, DONE);
 }
 
+// ---- moves: a long table whose groups move, one after the other, to the one that is free, so that they stay apart and it stays long
+
+static void moves(instance **next, const char *family, unsigned count, uint64_t seed)
+{
+    instance *x = begin(next, family, 128, 128);
+    random_state = seed;
+    half(x, NUNTENNIS_GROUPS - 1, 1);
+    unsigned open = NUNTENNIS_GROUPS - 1;
+    for (; count > 0; count--) {
+        unsigned from = (open + 1 + random_below(NUNTENNIS_GROUPS - 1)) % NUNTENNIS_GROUPS;
+        move(x, from, open);
+        open = from;
+    }
+}
+
+// A long table under rules that move once they are linked, to one group and another in turn.
+static void rule_moves(instance **next, const char *family, unsigned rules, uint64_t seed)
+{
+    instance *x = begin(next, family, 256, 256);
+    random_state = seed;
+    half(x, REST, 2);
+    for (unsigned k = 0; k < rules; k++) {
+        add_leaf(x, 0x12, HAND);
+        for (unsigned links = 3; links > 0; links--) {
+            link l = random_link(REST, 3);
+            put_link(x, l.code, l.group, HAND);
+        }
+        move(x, HAND, k % 2 ? REST : DONE);
+    }
+}
+
 // ---- heavy joins: blocks over the same groups, so that each join meets as many pairs, with as many subsets, as the one before
 
 enum { GATHERED = 7, BLOCKS = 3 };
@@ -290,6 +321,8 @@ size_t all_families(instance *instances)
     for (uint64_t seed = 1; seed <= 8; seed++) random_policy(&next, "random, 40 copies", 40, seed);
     balanced(&next, "balanced join, 128 by 32 pairs", 7, 5, 1);
     balanced(&next, "balanced join, 243 by 243 pairs", 5, 5, 2);
+    moves(&next, "moves of groups, 128 pairs", 1024, 1);
+    rule_moves(&next, "moves of rules, 243 pairs", 240, 1);
     heavy(&next, "heavy joins, 32 by 32 pairs", 32, 5, 0);
     return (size_t)(next - instances);
 }
