@@ -20,10 +20,10 @@ objdump -d -M intel --no-show-raw-insn "$archive" | awk '
         code[n] = substr($0, index($0, "\t") + 1)
     }
 
-    # The line that a conditional jump goes to; 0 for any other instruction.
+    # The line that a jump goes to; 0 for any other instruction.
     function goal(k,    words) {
         split(code[k], words, " ")
-        return words[1] ~ /^j/ && words[1] != "jmp" ? line_of[words[2]] : 0
+        return words[1] ~ /^j/ ? line_of[words[2]] : 0
     }
 
     # The place in memory that an instruction names.
@@ -33,31 +33,33 @@ objdump -d -M intel --no-show-raw-insn "$archive" | awk '
 
     function moves_groups(from, to,    k, loaded, shifts, puts, stores) {
         for (k = from; k <= to; k++) {
-            if (code[k] ~ /^mov[a-z]* +[a-z0-9]+,[A-Z]+ PTR /) loaded[memory(k)] = 1
-            if (code[k] ~ /^mov[a-z]* +[A-Z]+ PTR / && memory(k) !~ /rsp/ && memory(k) in loaded) stores = 1
+            if (code[k] ~ /^mov[a-z]* +[a-z0-9]+,[A-Z]+ PTR / && memory(k) !~ /rsp/) loaded[memory(k)] = 1
             if (code[k] ~ /^(pslld +xmm[0-9]+,xmm|shl +[a-z0-9]+,cl)/) shifts = 1
             if (code[k] ~ /^p?or +[a-z0-9]+,[a-z]/) puts = 1
         }
+        for (k = from; k <= to; k++)
+            if (code[k] ~ /^mov[a-z]* +[A-Z]+ PTR / && memory(k) in loaded) stores = 1
         return shifts && puts && stores
     }
 
-    # The conditional jumps of a loop; 0 where another loop stands in it.
+    # The conditional jumps of a loop; 0 where another one begins in it.
     function jumps(from, to,    k, count) {
         for (k = from; k <= to; k++) {
-            if (goal(k)) count++
-            if (k < to && goal(k) >= from && goal(k) <= k) return 0
+            if (k > from && last[k]) return 0
+            if (goal(k) && code[k] !~ /^jmp/) count++
         }
         return count
     }
 
     END {
         if (!n) print "test_loops: there is no operations::map_newest"
+        for (k = 1; k <= n; k++)
+            if (goal(k) && goal(k) <= k) last[goal(k)] = k
         for (k = 1; k <= n; k++) {
-            from = goal(k)
-            if (!from || from > k || !jumps(from, k) || !moves_groups(from, k)) continue
+            if (!last[k] || !jumps(k, last[k]) || !moves_groups(k, last[k])) continue
             loops++
-            if (jumps(from, k) == 1) continue
-            print "test_loops: " jumps(from, k) - 1 " more conditional jumps in the loop from " place[from] " to " place[k]
+            if (jumps(k, last[k]) == 1) continue
+            print "test_loops: " jumps(k, last[k]) - 1 " more conditional jumps in the loop from " place[k] " to " place[last[k]]
             wrong++
         }
         print "test_loops: " loops + 0 " loops move groups, " wrong + 0 " of them with a conditional jump beside their own"
