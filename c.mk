@@ -2,11 +2,12 @@
 #
 #     make c-test [SANITIZE=1]     the tests of the archive (and, with SANITIZE, of their own memory use)
 #     make bench                   the benchmark, with clingo where it is installed
+#     make compare OLD=archive     two archives of the library side by side: an older one, and this one
 #     make run [SHEET=file]        the example host on a sheet
 #     make install PREFIX=dir      archive, header and pkg-config file
 #
 # ARCHIVE=file tests another archive with the same calls.
-.PHONY: c-test bench run install
+.PHONY: c-test bench compare run install
 
 ifeq ($(origin CC),default)
 CC := gcc
@@ -37,6 +38,7 @@ test_large_PARTS := tests/test_large bench/families $(C_REFERENCE) $(C_SUPPORT)
 test_stack_PARTS := tests/test_stack bench/families
 test_moves_PARTS := tests/test_moves tests/random
 bench_PARTS := bench/bench bench/families bench/clingo $(C_REFERENCE) tests/policy
+compare_PARTS := bench/compare bench/families old
 host_PARTS := examples/host examples/arguments examples/sheet_file
 told_host_PARTS := tests/told_engine $(host_PARTS)
 
@@ -58,6 +60,17 @@ c-test: $(C_TESTS:%=$(C_BIN)/%) $(C_BIN)/host
 bench: $(C_BIN)/bench
 	$(C_BIN)/bench
 
+compare: $(C_BIN)/compare
+	$(C_BIN)/compare
+
+# The older archive beside this one: its decision by another name, and no other name of it. Made anew each time, since OLD may be another one.
+.PHONY: $(C_OUT)/old.o
+$(C_OUT)/old.o:
+	@test -n '$(OLD)' || { echo 'make compare OLD=archive' >&2; exit 2; }
+	@mkdir -p $(@D)
+	@ld -r --whole-archive $(OLD) -o $@
+	@objcopy --redefine-sym nuntennis_grounded=old_grounded --keep-global-symbol=old_grounded $@
+
 # The host's status is 1 for no and 2 for refused: neither is a fault of the run.
 run: $(C_BIN)/host
 	@$(C_BIN)/host $(SHEET) || [ $$? -le 2 ]
@@ -78,7 +91,7 @@ $(C_BIN)/$(1): $$($(1)_PARTS:%=$(C_OUT)/%.o) $(ARCHIVE)
 	@mkdir -p $$(@D)
 	@$$(CC) $$(C_FLAGS) $$^ -pthread -ldl -o $$@
 endef
-$(foreach p,$(C_TESTS) bench host,$(eval $(call C_PROGRAM,$(p))))
+$(foreach p,$(C_TESTS) bench compare host,$(eval $(call C_PROGRAM,$(p))))
 
 $(C_REFERENCE:%=$(C_OUT)/%.o): C_FLAGS += -O3
 

@@ -13,6 +13,9 @@
 
 enum { PAIRS = 1, SUBSETS = 16, VARIANTS = 4 };
 
+// A set of groups; where the groups of unmet rules begin in a triple.
+enum { GROUPS = NUNTENNIS_GROUPS, SETS = 1 << GROUPS, UNMET = 2 * GROUPS };
+
 static const size_t words = NUNTENNIS_WORKSPACE_WORDS(PAIRS, SUBSETS), report_words = NUNTENNIS_REPORT_WORDS(PAIRS, SUBSETS);
 
 typedef struct {
@@ -92,7 +95,8 @@ static void compare(const path *first, const path *p, const char *what, const qu
     size_t k = 0;
     while (k < first->length && k < p->length && first->at[k] == p->at[k]) k++;
     if (k == first->length && k == p->length) return;
-    printf("test_moves: the paths part after %zu instructions, behind address %#" PRIx64 "\n", k, k > 0 ? p->at[k - 1] : 0);
+    int64_t from_report = k > 0 ? (int64_t)(p->at[k - 1] - (uint64_t)(uintptr_t)nuntennis_report) : 0;
+    printf("test_moves: the paths part after %zu instructions, behind nuntennis_report %+" PRId64 "\n", k, from_report);
     fail(what, q);
 }
 
@@ -135,16 +139,16 @@ static void put(question *q, unsigned code, unsigned i, unsigned j)
 static void ask_move(question *q, const void *shape, unsigned variant)
 {
     (void)variant;
-    unsigned i = random_below(&source, 8), j = (i + 1 + random_below(&source, 7)) % 8;
-    uint32_t others = 0xFF & ~(1u << i | 1u << j), unmet = 0, of_both = (uint32_t)random_next(&source) & 0xFF & ~others;
+    unsigned i = random_below(&source, GROUPS), j = (i + 1 + random_below(&source, GROUPS - 1)) % GROUPS;
+    uint32_t both = 1u << i | 1u << j, others = (SETS - 1) & ~both, of_both = random_below(&source, SETS) & both, unmet = 0;
     *q = (question){.sheet_len = 0};
     put(q, 0x11, 0, 0);
     put(q, 0x31, i, j);
-    q->pair[0] = (uint32_t)random_next(&source) & 0xFFFFFF;
+    q->pair[0] = random_below(&source, SETS) << UNMET | random_below(&source, 1 << UNMET);
     q->pair[1] = *(const unsigned *)shape;
     for (unsigned k = 0; k < q->pair[1]; k++) {
-        q->pair[2 + k] = (unmet | of_both) << 16 | ((uint32_t)random_next(&source) & 0xFFFF);
-        unmet = (unmet - others) & others;
+        q->pair[2 + k] = (unmet | of_both) << UNMET | random_below(&source, 1 << UNMET);
+        unmet = (unmet - others) & others; // the next larger set of the others
     }
 }
 
