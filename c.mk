@@ -1,13 +1,12 @@
 # The C side of the library: tests through the header, benchmark, example host, installation. The Makefile includes it.
 #
 #     make c-test [SANITIZE=1]     the tests of the archive (and, with SANITIZE, of their own memory use)
-#     make bench                   the benchmark, with clingo where it is installed
-#     make compare OLD=archive     two archives of the library side by side: an older one, and this one
+#     make bench [OLD=archive]     the benchmark, with clingo where it is installed, and beside an older archive of the library
 #     make run [SHEET=file]        the example host on a sheet
 #     make install PREFIX=dir      archive, header and pkg-config file
 #
 # ARCHIVE=file tests another archive with the same calls.
-.PHONY: c-test bench compare run install
+.PHONY: c-test bench run install
 
 ifeq ($(origin CC),default)
 CC := gcc
@@ -38,7 +37,7 @@ test_large_PARTS := tests/test_large bench/families $(C_REFERENCE) $(C_SUPPORT)
 test_stack_PARTS := tests/test_stack bench/families
 test_moves_PARTS := tests/test_moves tests/random
 bench_PARTS := bench/bench bench/families bench/clingo $(C_REFERENCE) tests/policy
-compare_PARTS := bench/compare bench/families old
+bench_beside_old_PARTS := $(bench_PARTS) old new
 host_PARTS := examples/host examples/arguments examples/sheet_file
 told_host_PARTS := tests/told_engine $(host_PARTS)
 
@@ -57,19 +56,19 @@ c-test: $(C_TESTS:%=$(C_BIN)/%) $(C_BIN)/host
 	tests/test_host.sh $(C_BIN)/host $(C_BIN)/told_host $(if $(SANITIZE),sanitized)
 	tests/test_listing.sh $(if $(SKIP_LISTING),--may-skip) target/bin/listing
 
-bench: $(C_BIN)/bench
-	$(C_BIN)/bench
+bench: $(C_BIN)/$(if $(OLD),bench_beside_old,bench)
+	$<
 
-compare: $(C_BIN)/compare
-	$(C_BIN)/compare
-
-# The older archive beside this one: its decision by another name, and no other name of it. Made anew each time, since OLD may be another one.
-.PHONY: $(C_OUT)/old.o
+# Two archives in one program: the decision is the only name of each, the older one's another. Functions begin at multiples of 64 bytes, so that both lie
+# alike for the processor however they are linked. Made anew each time, since OLD may be another one.
+ALONE = ld -r --whole-archive $(1) -o $@ && objcopy --set-section-alignment '.text.*=64' --redefine-sym nuntennis_grounded=$(2) --keep-global-symbol=$(2) $@
+.PHONY: $(C_OUT)/old.o $(C_OUT)/new.o
 $(C_OUT)/old.o:
-	@test -n '$(OLD)' || { echo 'make compare OLD=archive' >&2; exit 2; }
 	@mkdir -p $(@D)
-	@ld -r --whole-archive $(OLD) -o $@
-	@objcopy --redefine-sym nuntennis_grounded=old_grounded --keep-global-symbol=old_grounded $@
+	@$(call ALONE,$(OLD),old_grounded)
+$(C_OUT)/new.o: $(ARCHIVE)
+	@mkdir -p $(@D)
+	@$(call ALONE,$(ARCHIVE),nuntennis_grounded)
 
 # The host's status is 1 for no and 2 for refused: neither is a fault of the run.
 run: $(C_BIN)/host
@@ -91,7 +90,7 @@ $(C_BIN)/$(1): $$($(1)_PARTS:%=$(C_OUT)/%.o) $(ARCHIVE)
 	@mkdir -p $$(@D)
 	@$$(CC) $$(C_FLAGS) $$^ -pthread -ldl -o $$@
 endef
-$(foreach p,$(C_TESTS) bench compare host,$(eval $(call C_PROGRAM,$(p))))
+$(foreach p,$(C_TESTS) bench bench_beside_old host,$(eval $(call C_PROGRAM,$(p))))
 
 $(C_REFERENCE:%=$(C_OUT)/%.o): C_FLAGS += -O3
 

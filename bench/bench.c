@@ -1,4 +1,4 @@
-// Grounded decisions side by side in one run: the archive, the hand-written C, and clingo where it is installed.
+// Grounded decisions side by side in one run: the archive, an older one if it is linked, the hand-written C, and clingo where it is installed.
 #define _DEFAULT_SOURCE
 #include "clingo.h"
 #include "families.h"
@@ -12,7 +12,8 @@
 #include <sys/resource.h>
 #include <time.h>
 
-enum { RUNS = 7, LONG_RUNS = 3 };
+// Short runs in many turns: then the machine is as busy for one way as for the other.
+enum { RUNS = 101, FEW_RUNS = 15, LONG_RUNS = 3 };
 
 static uint32_t *workspace;
 
@@ -36,28 +37,37 @@ static double seconds(void)
     return seconds_by(CLOCK_PROCESS_CPUTIME_ID) + seconds_of(programs.ru_utime) + seconds_of(programs.ru_stime);
 }
 
-// ---- the four ways to decide
+// ---- the ways to decide
 
 typedef struct { const instance *x; char *text; } question;
 
-static int by_archive(const question *q, uint64_t *plan)
+typedef uint64_t grounded(const uint8_t *, size_t, uint64_t, uint64_t, uint64_t, uint64_t, uint32_t *, size_t, uint64_t *, size_t);
+
+// The call of an older archive, by another name (c.mk).
+extern grounded old_grounded __attribute__((weak));
+
+static int by_call(grounded *call, const instance *x, uint64_t *plan)
 {
     uint64_t answer[3];
-    const instance *x = q->x;
-    nuntennis_grounded(x->sheet, x->sheet_len, x->plan_limit, x->subset_limit, x->pins_in, x->pins_out, workspace,
-                       NUNTENNIS_WORKSPACE_WORDS(x->plan_limit, x->subset_limit), answer, 3);
+    call(x->sheet, x->sheet_len, x->plan_limit, x->subset_limit, x->pins_in, x->pins_out, workspace,
+         NUNTENNIS_WORKSPACE_WORDS(x->plan_limit, x->subset_limit), answer, 3);
     *plan = answer[1];
     return answer[0] == 2 ? -(int)answer[1] : (int)answer[0];
 }
 
+static int by_archive(const question *q, uint64_t *plan)
+{
+    return by_call(nuntennis_grounded, q->x, plan);
+}
+
+static int by_old(const question *q, uint64_t *plan)
+{
+    return by_call(old_grounded, q->x, plan);
+}
+
 static int by_reference(const question *q, uint64_t *plan)
 {
-    uint64_t answer[3];
-    const instance *x = q->x;
-    reference_grounded(x->sheet, x->sheet_len, x->plan_limit, x->subset_limit, x->pins_in, x->pins_out, workspace,
-                       NUNTENNIS_WORKSPACE_WORDS(x->plan_limit, x->subset_limit), answer, 3);
-    *plan = answer[1];
-    return answer[0] == 2 ? -(int)answer[1] : (int)answer[0];
+    return by_call(reference_grounded, q->x, plan);
 }
 
 static int by_library(const question *q, uint64_t *plan)
@@ -74,13 +84,15 @@ static int by_program(const question *q, uint64_t *plan)
 
 typedef int decide(const question *, uint64_t *);
 
-enum { ARCHIVE, REFERENCE, LIBRARY, PROGRAM, WAYS };
+enum { ARCHIVE, OLD, REFERENCE, LIBRARY, PROGRAM, WAYS };
 
-static decide *const ways[WAYS] = {by_archive, by_reference, by_library, by_program};
+static decide *const ways[WAYS] = {by_archive, by_old, by_reference, by_library, by_program};
+
+static const char *const names[WAYS] = {"the archive", "the older archive", "the hand-written C", "clingo", "clingo as a program"};
 
 static bool is_there(unsigned way)
 {
-    return way == LIBRARY ? clingo_has_library() : way == PROGRAM ? clingo_has_program() : true;
+    return way == OLD ? old_grounded != NULL : way == LIBRARY ? clingo_has_library() : way == PROGRAM ? clingo_has_program() : true;
 }
 
 // ---- all must agree
@@ -112,10 +124,9 @@ static int check_agreement(const question *q, const policy *p)
     uint64_t plan, other;
     int said = by_archive(q, &plan);
     if (said < 0) disagree(q, "the archive refuses");
-    for (unsigned way = REFERENCE; way < WAYS; way++) {
+    for (unsigned way = OLD; way < WAYS; way++) {
         if (!is_there(way)) continue;
-        if (ways[way](q, &other) != said) disagree(q, way == REFERENCE ? "the hand-written C" : "clingo");
-        if (way == REFERENCE && other != plan) disagree(q, "the hand-written C shows another plan");
+        if (ways[way](q, &other) != said || (way <= REFERENCE && other != plan)) disagree(q, names[way]);
     }
     if (said == 1) check_plan(q, plan, p);
     return said;
@@ -147,10 +158,15 @@ static double once(decide *way, const question *q, size_t n)
     return seconds_by(CLOCK_MONOTONIC) - start;
 }
 
-// So many times that a run takes some 20 ms.
+// So many times that a run takes some 4 ms.
 static unsigned times_of(double took)
 {
-    return took > 0.02 ? 1 : (unsigned)(0.02 / took) + 1;
+    return took > 0.004 ? 1 : (unsigned)(0.004 / took) + 1;
+}
+
+static unsigned runs_of(double took)
+{
+    return took > 1 ? LONG_RUNS : took > 0.02 ? FEW_RUNS : RUNS;
 }
 
 // Medians; the ways take turns, so that a busy machine is busy for all of them. A family that takes long is run less often.
@@ -159,9 +175,9 @@ static void time_family(const question *q, size_t n, double *median)
     double run[WAYS][RUNS];
     unsigned times[WAYS], runs = RUNS;
     for (unsigned way = 0; way < WAYS; way++) {
-        double took = is_there(way) ? once(ways[way], q, n) : 1;
+        double took = is_there(way) ? once(ways[way], q, n) : 0.004;
         times[way] = times_of(took);
-        if (took > 1) runs = LONG_RUNS;
+        if (runs_of(took) < runs) runs = runs_of(took);
     }
     for (unsigned k = 0; k < runs; k++)
         for (unsigned way = 0; way < WAYS; way++) run[way][k] = is_there(way) ? time_run(ways[way], q, n, times[way]) : 0;
@@ -175,7 +191,7 @@ static void time_family(const question *q, size_t n, double *median)
 
 static void print_ratio(double ours, double theirs)
 {
-    if (theirs > 0) printf(" %8.2f", ours / theirs);
+    if (theirs > 0) printf(" %8.3f", ours / theirs);
     else printf(" %8s", "-");
 }
 
@@ -199,6 +215,8 @@ static void bench_family(const instance *x, size_t n)
     time_family(q, n, t);
     printf("%-32s %3zu %3u %5" PRIu64 " %5" PRIu64, x->family, n, yes, x->plan_limit, x->subset_limit);
     print_time(t[ARCHIVE]);
+    print_time(t[OLD]);
+    print_ratio(t[ARCHIVE], t[OLD]);
     print_time(t[REFERENCE]);
     print_ratio(t[ARCHIVE], t[REFERENCE]);
     print_time(t[LIBRARY]);
@@ -211,14 +229,16 @@ static void bench_family(const instance *x, size_t n)
 
 static void print_head(void)
 {
-    printf("Milliseconds of processor time per grounded decision, median of %d runs (%d where one takes over a second).\n", RUNS, LONG_RUNS);
+    printf("Milliseconds of processor time per grounded decision, median of %d runs (%d where a run takes over 20 ms, %d over a second).\n", RUNS,
+           FEW_RUNS, LONG_RUNS);
     printf("Each decision reads the sheet, checks, walks and clears the workspace.\n");
+    if (!old_grounded) printf("No older archive (make bench OLD=archive): its columns are empty.\n");
     if (clingo_has_library()) printf("clingo %s in this process: grounding and solving of the same policy as text.\n", clingo_version_text());
     else printf("No clingo library (CLINGO_LIBRARY=path of libclingo.so.3, Debian package gringo): its columns are empty.\n");
     if (clingo_has_program()) printf("clingo as a program: the same with its start, timed from outside.\n");
     else printf("No clingo program (CLINGO=path, Debian package gringo): its column is empty.\n");
-    printf("%-32s %3s %3s %5s %5s %10s %10s %8s %10s %8s %10s\n", "family", "n", "yes", "P", "G", "archive", "C", "/ C", "clingo",
-           "/ clingo", "program");
+    printf("%-32s %3s %3s %5s %5s %10s %10s %8s %10s %8s %10s %8s %10s\n", "family", "n", "yes", "P", "G", "archive", "old", "/ old", "C", "/ C",
+           "clingo", "/ clingo", "program");
 }
 
 // By the archive alone, once.
