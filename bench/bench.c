@@ -254,7 +254,7 @@ static int bench_once(const instance *x)
     return said < 0;
 }
 
-static int is_named(const instance *x, const char *name)
+static bool is_named(const instance *x, const char *name)
 {
     return strncmp(x->family, name, strlen(name)) == 0;
 }
