@@ -58,12 +58,17 @@ static void move(instance *x, unsigned i, unsigned j)
 
 typedef struct { unsigned code, group; } link;
 
-// A rule with so many links.
-static void rule(instance *x, unsigned links, const link *l)
+// A rule with so many links, which moves then.
+static void rule_to(instance *x, unsigned group, unsigned links, const link *l)
 {
     add_leaf(x, 0x12, HAND);
     for (unsigned k = 0; k < links; k++) put_link(x, l[k].code, l[k].group, HAND);
-    move(x, HAND, DONE);
+    move(x, HAND, group);
+}
+
+static void rule(instance *x, unsigned links, const link *l)
+{
+    rule_to(x, DONE, links, l);
 }
 
 #define RULE(x, ...) rule(x, sizeof((link[]){__VA_ARGS__}) / sizeof(link), (link[]){__VA_ARGS__})
@@ -233,32 +238,28 @@ static void balanced(instance **next, const char *family, unsigned left, unsigne
 
 // ---- moves: a long table whose groups move, one after the other, to the one that is free, so that they stay apart and it stays long
 
-static void moves(instance **next, const char *family, unsigned count, uint64_t seed)
+static void moves(instance **next, const char *family, unsigned groups, unsigned count, uint64_t seed)
 {
-    instance *x = begin(next, family, 128, 128);
+    unsigned pairs = 1u << (groups - 1), vacant = groups - 1;
+    instance *x = begin(next, family, pairs, pairs);
     random_state = seed;
-    half(x, NUNTENNIS_GROUPS - 1, 1);
-    unsigned open = NUNTENNIS_GROUPS - 1;
+    half(x, groups - 1, 1);
     for (; count > 0; count--) {
-        unsigned from = (open + 1 + random_below(NUNTENNIS_GROUPS - 1)) % NUNTENNIS_GROUPS;
-        move(x, from, open);
-        open = from;
+        unsigned from = (vacant + 1 + random_below(groups - 1)) % groups;
+        move(x, from, vacant);
+        vacant = from;
     }
 }
 
-// A long table under rules that move once they are linked, to one group and another in turn.
+// A long table under rules that move to one group and another in turn.
 static void rule_moves(instance **next, const char *family, unsigned rules, uint64_t seed)
 {
     instance *x = begin(next, family, 256, 256);
     random_state = seed;
     half(x, REST, 2);
     for (unsigned k = 0; k < rules; k++) {
-        add_leaf(x, 0x12, HAND);
-        for (unsigned links = 3; links > 0; links--) {
-            link l = random_link(REST, 3);
-            put_link(x, l.code, l.group, HAND);
-        }
-        move(x, HAND, k % 2 ? REST : DONE);
+        link first = random_link(REST, 3), second = random_link(REST, 3), third = random_link(REST, 3);
+        rule_to(x, k % 2 ? REST : DONE, 3, (link[]){first, second, third});
     }
 }
 
@@ -321,7 +322,7 @@ size_t all_families(instance *instances)
     for (uint64_t seed = 1; seed <= 8; seed++) random_policy(&next, "random, 40 copies", 40, seed);
     balanced(&next, "balanced join, 128 by 32 pairs", 7, 5, 1);
     balanced(&next, "balanced join, 243 by 243 pairs", 5, 5, 2);
-    moves(&next, "moves of groups, 128 pairs", 1024, 1);
+    moves(&next, "moves of groups, 128 pairs", 8, 1024, 1);
     rule_moves(&next, "moves of rules, 243 pairs", 240, 1);
     heavy(&next, "heavy joins, 32 by 32 pairs", 32, 5, 0);
     return (size_t)(next - instances);
