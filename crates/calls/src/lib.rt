@@ -1,8 +1,8 @@
 // The grounded decision, as the definitions say it. It has no `requires`.
 use checks::checking::check;
+use checks::frames::frame_for;
 use expression::Checked;
 use expression::Outcome;
-use expression::limits::AREAS;
 ghost use mathlib.Core.Path.{_≡_};
 ghost use lib.ListN.{length};
 ghost use Rattle.labels.specs.Labels.{labelCount};
@@ -28,9 +28,16 @@ pub fn grounded(
     let Checked::Passed(n) = r else {
         return checks::outcomes::refusal(r);
     };
-    let limit = p as usize;
-    let w = g as usize + 2;
-    let need = AREAS * (limit * w);
-    let o = engine::decide_pairs(s, ws, AREAS, w, limit, need, assumed_true, assumed_false);
+    let f = frame_for(n.deepest, p, g);
+    let o = engine::decide_pairs(
+        s,
+        ws,
+        f.areas,
+        f.width,
+        f.limit,
+        f.need,
+        assumed_true,
+        assumed_false,
+    );
     engine::shown(o, n.atoms)
 }

@@ -1,20 +1,19 @@
-// The checks that come before any table (01, Outcomes: 1 to 13; 02, Item 4: a clash last).
+// The checks that come before any table (01, Outcomes: 1 to 13; 02, Item 8: 3 behind 12; Item 4: a clash last).
 ghost use mathlib.Core.Path.{_≡_};
 ghost use mathlib.Core.Bool.{not, _&&_};
-ghost use Prim.Native.Nat.{_≤_, _<_, _^_};
+ghost use Prim.Native.Nat.{_<_, _^_};
 ghost use lib.Dec.{ltb};
 ghost use Rattle.labels.specs.Labels.{labelCount};
 ghost use Rattle.expression.specs.Commands.{refusalOf};
-ghost use Rattle.expression.specs.Limits.{tableLimit, workspaceNeed};
-ghost use Rattle.expression.specs.Checks.{isLimit, check, checkBytes};
+ghost use Rattle.expression.specs.Checks.{isLimit, check, checkBytes, checkSheet};
 ghost use Rattle.checks.specs.Requests.{request};
+use crate::frames::frame_for;
 use commands::counting::count_fault;
 use commands::counting::counted;
 use commands::counting::no_counts;
 use expression::Checked;
 use expression::Read;
 use expression::limits::BYTE_LIMIT;
-use expression::limits::DEPTH_LIMIT;
 use expression::limits::TABLE_LIMIT;
 use expression::refusals::ABSENT;
 use expression::refusals::CLASH;
@@ -41,13 +40,13 @@ pub fn check(
     if !are_limits(p, g) {
         return Checked::Refused(LIMITS, 0);
     }
-    if is_cramped(p, g, room) {
-        return Checked::Refused(CRAMPED, 0);
-    }
     let r = check_bytes(s);
     let Checked::Passed(n) = r else {
         return r;
     };
+    if room < frame_for(n.deepest, p, g).need {
+        return Checked::Refused(CRAMPED, 0);
+    }
     if has_absent(n.atoms, assumed_true, assumed_false) {
         return Checked::Refused(ABSENT, s.len());
     }
@@ -55,6 +54,16 @@ pub fn check(
         return Checked::Refused(CLASH, 0);
     }
     r
+}
+
+// 1, then 5 to 12: those of the bytes alone.
+pub fn check_sheet(s: &[u8]) -> Checked
+    ensures { λ r. ⌜ r ≡ checkSheet labelCount (now (s .entry)) ⌝ }
+{
+    if s.len() > BYTE_LIMIT {
+        return Checked::Refused(OVERLONG, 0);
+    }
+    check_bytes(s)
 }
 
 // 5 to 11 at the first faulty command, then 12; else the counts of the whole expression.
@@ -109,14 +118,6 @@ fn is_limit(n: u64) -> bool
         return false;
     }
     true
-}
-
-// The product stays small, since the limits were tested.
-fn is_cramped(p: u64, g: u64, room: usize) -> bool
-    requires { ⌜ (p ≤ tableLimit) × (g ≤ tableLimit) ⌝ }
-    ensures { λ r. ⌜ r ≡ ltb room (workspaceNeed p g) ⌝ }
-{
-    (room as u64) < (DEPTH_LIMIT + 1) * (p * (g + 2))
 }
 
 // An assumption on an atom that is none of the n.

@@ -16,7 +16,7 @@ use Rattle.expression.specs.Limits.{tableLimit, workspaceNeed}
 use Rattle.expression.specs.Commands.{oneOperand, twoOperands, isCommand, operandCount, commandOf, readCommand, readAt}
 use Rattle.expression.specs.Effects.{effect}
 use Rattle.expression.specs.Reading.{noCounts, counted, countFault, behind, readFrom, reading}
-use Rattle.expression.specs.Checks.{Request, firstOf, isFaulty, faultNumber, faultPlace, countsOf, isLimit, overlongTest, limitsTest, crampedTest, clashTest, faultTest, unjoinedTest, absentTest, checks, check}
+use Rattle.expression.specs.Checks.{Request, firstOf, isFaulty, faultNumber, faultPlace, countsOf, isLimit, overlongTest, limitsTest, crampedTest, clashTest, faultTest, unjoinedTest, absentTest, checks, check, depthOf}
 use Rattle.semantics.specs.Expressions.{fold, uniteNewest, changeNewest, act, actAll, trees}
 use Rattle.semantics.specs.Programs.{numbers}
 use Rattle.semantics.specs.AnswerSets.{byMasks}
@@ -40,7 +40,7 @@ record Row : Type 0 where
 
 row : List ℕ → ℕ → ℕ → ℕ → ℕ → Outcome → Outcome → Row
 row s P G i o r p = record {
-  asked = record { bytes = s; pairLimit = P; subsetLimit = G; room = workspaceNeed P G; assumedTrue = i; assumedFalse = o };
+  asked = record { bytes = s; pairLimit = P; subsetLimit = G; room = workspaceNeed (depthOf labelCount s) P G; assumedTrue = i; assumedFalse = o };
   says = r;
   plainly = p;
 }
@@ -92,13 +92,13 @@ rows =
 
 starred : map (λ r. groundedOutcome labelCount (r .asked)) rows ≡ map (λ r. r .says) rows
 unfolding rows row listed circle twins either firstMask chosen saysYes run numbers treeOf expressionOf actAll trees grounded decide conclude answer walk pairsFault groundedAccepts accepting pairs mapPair unitePairs setOf compareLists
-    commandsIn assumed byMasks check checks overlongTest limitsTest crampedTest clashTest faultTest unjoinedTest absentTest isLimit countsOf faultPlace faultNumber isFaulty firstOf reading readFrom behind countFault counted effect noCounts readAt readCommand commandOf operandCount isCommand
+    commandsIn assumed byMasks check checks overlongTest limitsTest crampedTest clashTest faultTest unjoinedTest absentTest depthOf isLimit countsOf faultPlace faultNumber isFaulty firstOf reading readFrom behind countFault counted effect noCounts readAt readCommand commandOf operandCount isCommand
     twoOperands oneOperand act uniteNewest changeNewest allMet connectTriple settles relabelTriple markT markF
     markU tables leaf some products canon insertAll insert compareNumbers has without replace
 starred = refl
 
 starred-plain : map (λ r. plainOutcome labelCount (r .asked)) rows ≡ map (λ r. r .plainly) rows
-unfolding rows row listed circle twins either plain decide conclude answer walk plainFault plainAccepts triples commandsIn assumed byMasks check checks overlongTest limitsTest crampedTest clashTest faultTest unjoinedTest absentTest isLimit countsOf faultPlace faultNumber isFaulty firstOf reading readFrom behind countFault counted effect noCounts readAt readCommand commandOf operandCount isCommand
+unfolding rows row listed circle twins either plain decide conclude answer walk plainFault plainAccepts triples commandsIn assumed byMasks check checks overlongTest limitsTest crampedTest clashTest faultTest unjoinedTest absentTest depthOf isLimit countsOf faultPlace faultNumber isFaulty firstOf reading readFrom behind countFault counted effect noCounts readAt readCommand commandOf operandCount isCommand
     twoOperands oneOperand act uniteNewest changeNewest allMet connectTriple settles relabelTriple markT markF
     markU tables leaf some products canon insertAll insert compareNumbers has without replace
 starred-plain = refl
@@ -108,16 +108,16 @@ starred-plain = refl
 abbrev narrow : ℕ → ℕ → Request
 narrow P room = record { bytes = twins; pairLimit = P; subsetLimit = 1; room = room; assumedTrue = 0; assumedFalse = 0 }
 
-module _ (P room : ℕ) (low : 2 ≤ P) (high : P ≤ tableLimit) (fits : workspaceNeed P 1 ≤ room) where
+module _ (P room : ℕ) (low : 2 ≤ P) (high : P ≤ tableLimit) (fits : workspaceNeed 2 P 1 ≤ room) where
   abbrev asks : Request
   asks = narrow P room
 
   narrow-passes : check labelCount asks ≡ Passed (record { atoms = 2; rules = 0; depth = 1; deepest = 2 })
-  unfolding twins check checks overlongTest limitsTest crampedTest clashTest faultTest unjoinedTest absentTest isLimit countsOf faultPlace faultNumber isFaulty firstOf reading readFrom behind
+  unfolding twins check checks overlongTest limitsTest crampedTest clashTest faultTest unjoinedTest absentTest depthOf isLimit countsOf faultPlace faultNumber isFaulty firstOf reading readFrom behind
       countFault counted effect noCounts readAt readCommand commandOf operandCount isCommand twoOperands oneOperand
   narrow-passes =
       ap₂ (λ b c. cond (not (b && true)) (stop 2 0) (cond c (stop 3 0) (Passed (record { atoms = 2; rules = 0; depth = 1; deepest = 2 }))))
-      (ap₂ _&&_ (lt-ltb 0 P (omega arith)) (lt-ltb P (tableLimit + 1) (omega arith))) (le-ltb room (workspaceNeed P 1) fits)
+      (ap₂ _&&_ (lt-ltb 0 P (omega arith)) (lt-ltb P (tableLimit + 1) (omega arith))) (le-ltb room (workspaceNeed 2 P 1) fits)
 
   -- an atom's table has two pairs with a subset at most, that of both a pair with two
   twins-full : grounded labelCount asks ≡ refused 15 4

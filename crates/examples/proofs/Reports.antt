@@ -1,7 +1,7 @@
 -- Reports by evaluation: 14 and 17 with their places, what is written, and the order of pairs, numbers and places as 01 has them. Assumes nothing.
 use mathlib.Core.Path.{_≡_, refl}
 use mathlib.Core.List.{List, [], _∷_, _++_, map}
-use Prim.Native.Nat.{ℕ, _+_, _-_, _*_}
+use Prim.Native.Nat.{ℕ, _-_}
 use lib.ListN.{length, replicate}
 use Rattle.lists.specs.Lists.{some, products}
 use Rattle.lists.specs.Sorted.{compareNumbers, compareLists, second, insert, insertAll, canon, setOf}
@@ -10,7 +10,8 @@ use Rattle.labels.specs.Sets.{has, without, replace}
 use Rattle.expression.specs.Commands.{oneOperand, twoOperands, isCommand, operandCount, commandOf, readCommand, readAt}
 use Rattle.expression.specs.Effects.{effect}
 use Rattle.expression.specs.Reading.{noCounts, counted, countFault, behind, readFrom, reading}
-use Rattle.expression.specs.Checks.{Request, firstOf, isFaulty, faultNumber, faultPlace, countsOf, isLimit, overlongTest, limitsTest, crampedTest, clashTest, faultTest, unjoinedTest, absentTest, checks, check}
+use Rattle.expression.specs.Limits.{workspaceNeed}
+use Rattle.expression.specs.Checks.{Request, firstOf, isFaulty, faultNumber, faultPlace, countsOf, isLimit, overlongTest, limitsTest, crampedTest, clashTest, faultTest, unjoinedTest, absentTest, checks, check, depthOf}
 use Rattle.expression.specs.Places.{locateFrom, locate}
 use Rattle.semantics.specs.Expressions.{uniteNewest, changeNewest, act}
 use Rattle.semantics.specs.AnswerSets.{byMasks}
@@ -38,7 +39,7 @@ record Row : Type 0 where
   plainWrites : List ℕ
 
 asked : Row → Request
-asked r = record { bytes = r .sheet; pairLimit = r .P; subsetLimit = r .G; room = 9 * (r .P * (r .G + 2)); assumedTrue = 0; assumedFalse = 0 }
+asked r = record { bytes = r .sheet; pairLimit = r .P; subsetLimit = r .G; room = workspaceNeed (depthOf labelCount (r .sheet)) (r .P) (r .G); assumedTrue = 0; assumedFalse = 0 }
 
 row : List ℕ → ℕ → ℕ → ℕ → ℕ → Report → List ℕ → Report → List ℕ → Row
 row s P G at n x ws y vs = record { sheet = s; P = P; G = G; offset = at; room = n; answers = x; writes = ws; plainly = y; plainWrites = vs }
@@ -96,28 +97,28 @@ triplesOf r = askedTable (triples labelCount) (plainFault (r .P)) labelCount (as
 
 answer-examples : map (λ r. reportAnswer (reportOf Pairs) (r .room) (r .offset) (pairsOf r)) rows ≡ map (λ r. r .answers) rows
 unfolding rows row refusal asked listed twins written askedTable startsAt reportOf entryWords before walk commandsIn pairsFault plainFault assumed byMasks locate locateFrom check checks overlongTest limitsTest crampedTest
-    clashTest faultTest unjoinedTest absentTest isLimit countsOf faultPlace faultNumber isFaulty firstOf reading readFrom behind countFault counted effect noCounts readAt readCommand
+    clashTest faultTest unjoinedTest absentTest depthOf isLimit countsOf faultPlace faultNumber isFaulty firstOf reading readFrom behind countFault counted effect noCounts readAt readCommand
     commandOf operandCount isCommand twoOperands oneOperand act uniteNewest changeNewest pairs triples mapPair unitePairs connectTriple settles relabelTriple markT markF markU tables leaf some products setOf
     canon insertAll insert compareLists compareNumbers has without replace
 answer-examples = refl
 
 buffer-examples : map (λ r. reportBuffer (reportOf Pairs) (replicate (r .room) 9) (pairsOf r)) rows ≡ map (λ r. written (r .room) (r .writes)) rows
 unfolding rows row refusal asked listed twins written askedTable startsAt reportOf entryWords before walk commandsIn pairsFault plainFault assumed byMasks locate locateFrom check checks overlongTest limitsTest crampedTest
-    clashTest faultTest unjoinedTest absentTest isLimit countsOf faultPlace faultNumber isFaulty firstOf reading readFrom behind countFault counted effect noCounts readAt readCommand
+    clashTest faultTest unjoinedTest absentTest depthOf isLimit countsOf faultPlace faultNumber isFaulty firstOf reading readFrom behind countFault counted effect noCounts readAt readCommand
     commandOf operandCount isCommand twoOperands oneOperand act uniteNewest changeNewest pairs triples mapPair unitePairs connectTriple settles relabelTriple markT markF markU tables leaf some products setOf
     canon insertAll insert compareLists compareNumbers has without replace
 buffer-examples = refl
 
 plain-answer-examples : map (λ r. reportAnswer (λ t. t) (r .room) (r .offset) (triplesOf r)) rows ≡ map (λ r. r .plainly) rows
 unfolding rows row refusal asked listed twins written askedTable startsAt reportOf entryWords before walk commandsIn pairsFault plainFault assumed byMasks locate locateFrom check checks overlongTest limitsTest crampedTest
-    clashTest faultTest unjoinedTest absentTest isLimit countsOf faultPlace faultNumber isFaulty firstOf reading readFrom behind countFault counted effect noCounts readAt readCommand
+    clashTest faultTest unjoinedTest absentTest depthOf isLimit countsOf faultPlace faultNumber isFaulty firstOf reading readFrom behind countFault counted effect noCounts readAt readCommand
     commandOf operandCount isCommand twoOperands oneOperand act uniteNewest changeNewest pairs triples mapPair unitePairs connectTriple settles relabelTriple markT markF markU tables leaf some products setOf
     canon insertAll insert compareLists compareNumbers has without replace
 plain-answer-examples = refl
 
 plain-buffer-examples : map (λ r. reportBuffer (λ t. t) (replicate (r .room) 9) (triplesOf r)) rows ≡ map (λ r. written (r .room) (r .plainWrites)) rows
 unfolding rows row refusal asked listed twins written askedTable startsAt reportOf entryWords before walk commandsIn pairsFault plainFault assumed byMasks locate locateFrom check checks overlongTest limitsTest crampedTest
-    clashTest faultTest unjoinedTest absentTest isLimit countsOf faultPlace faultNumber isFaulty firstOf reading readFrom behind countFault counted effect noCounts readAt readCommand
+    clashTest faultTest unjoinedTest absentTest depthOf isLimit countsOf faultPlace faultNumber isFaulty firstOf reading readFrom behind countFault counted effect noCounts readAt readCommand
     commandOf operandCount isCommand twoOperands oneOperand act uniteNewest changeNewest pairs triples mapPair unitePairs connectTriple settles relabelTriple markT markF markU tables leaf some products setOf
     canon insertAll insert compareLists compareNumbers has without replace
 plain-buffer-examples = refl
@@ -131,11 +132,17 @@ order-example = refl
 
 -- ---- the workspace afterwards: untouched by 1 to 14, else zero where it is needed
 
--- with P = G = 1: the need is 27
-small : Request
-small = record { bytes = 0x11 ∷ 0 ∷ []; pairLimit = 1; subsetLimit = 1; room = 29; assumedTrue = 1; assumedFalse = 0 }
+-- with P = G = 1: an area is three words
+small : List ℕ → Request
+small s = record { bytes = s; pairLimit = 1; subsetLimit = 1; room = 11; assumedTrue = 1; assumedFalse = 0 }
 
-words-examples : map (λ at. wordsReported labelCount small at (replicate 29 9)) (0 ∷ 1 ∷ 2 ∷ []) ≡ (replicate 27 0 ++ (9 ∷ 9 ∷ [])) ∷ replicate 29 9 ∷ replicate 29 9 ∷ []
-unfolding wordsReported small startsAt locate locateFrom check checks overlongTest limitsTest crampedTest clashTest faultTest unjoinedTest absentTest isLimit countsOf faultPlace faultNumber isFaulty firstOf reading
+words-examples : map (λ at. wordsReported labelCount (small (0x11 ∷ 0 ∷ [])) at (replicate 11 9)) (0 ∷ 1 ∷ 2 ∷ []) ≡ (replicate 6 0 ++ replicate 5 9) ∷ replicate 11 9 ∷ replicate 11 9 ∷ []
+unfolding wordsReported small startsAt locate locateFrom check checks overlongTest limitsTest crampedTest clashTest faultTest unjoinedTest absentTest depthOf isLimit countsOf faultPlace faultNumber isFaulty firstOf reading
     readFrom behind countFault counted effect noCounts readAt readCommand commandOf operandCount isCommand twoOperands oneOperand
 words-examples = refl
+
+-- 02, Item 8: a report of the first command zeroes what the whole sheet needs
+early-example : wordsReported labelCount (small (0x11 ∷ 0 ∷ 0x12 ∷ 1 ∷ 0x21 ∷ [])) 0 (replicate 11 9) ≡ replicate 9 0 ++ replicate 2 9
+unfolding wordsReported small startsAt locate locateFrom check checks overlongTest limitsTest crampedTest clashTest faultTest unjoinedTest absentTest depthOf isLimit countsOf faultPlace faultNumber isFaulty firstOf reading
+    readFrom behind countFault counted effect noCounts readAt readCommand commandOf operandCount isCommand twoOperands oneOperand
+early-example = refl

@@ -15,7 +15,7 @@ rules zero = 0x12 ∷ 0 ∷ []
 rules (suc n) = rules n ++ (0x12 ∷ 0 ∷ 0x21 ∷ [])
 
 asked : List ℕ → Request
-asked s = record { bytes = s; pairLimit = 32; subsetLimit = 32; room = 9792; assumedTrue = 0; assumedFalse = 0 }
+asked s = record { bytes = s; pairLimit = 32; subsetLimit = 32; room = 3264; assumedTrue = 0; assumedFalse = 0 }
 
 rules-examples : map (λ n. check labelCount (asked (rules n))) (255 ∷ 256 ∷ []) ≡ Passed (record { atoms = 0; rules = 256; depth = 1; deepest = 2 }) ∷ Refused 9 767 ∷ []
 unfolding asked rules check checks overlongTest limitsTest crampedTest clashTest faultTest unjoinedTest absentTest isLimit countsOf faultPlace faultNumber isFaulty firstOf reading readFrom behind

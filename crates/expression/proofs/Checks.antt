@@ -16,7 +16,7 @@ use Rattle.expression.specs.declared.Read.the-variants.{Command as Got, 
 use Rattle.expression.specs.declared.Counts.{Counts}
 use Rattle.expression.specs.declared.Checked.{Checked}
 use Rattle.expression.specs.declared.Checked.the-variants.{Passed, Refused}
-use Rattle.expression.specs.Limits.{tableLimit, areaWords, countLimit}
+use Rattle.expression.specs.Limits.{depthLimit, tableLimit, areaWords, countLimit, areasFor, areaCount, workspaceNeed}
 use Rattle.expression.specs.Refusals.{unjoined}
 use Rattle.expression.specs.Commands.{readAt}
 use Rattle.expression.specs.Reading.{noCounts, counted, capped, countFault, Placed, Reading, faulty, whole, behind, readFrom, reading}
@@ -180,6 +180,9 @@ limits-tested P G h = let b = and-both (isLimit P) (isLimit G) h in (limit-teste
 
 pub area-bound : (P G : ℕ) → P ≤ tableLimit → G ≤ tableLimit → areaWords P G ≤ areaWords tableLimit tableLimit
 area-bound P G p g = let h : G + 2 ≤ tableLimit + 2 = omega arith in mul-le-mul p h
+
+pub need-bound : (d P G : ℕ) → d ≤ depthLimit → P ≤ tableLimit → G ≤ tableLimit → workspaceNeed d P G ≤ workspaceNeed depthLimit tableLimit tableLimit
+need-bound d P G l p g = let h : areasFor d ≤ areaCount = omega arith in mul-le-mul h (area-bound P G p g)
 
 -- no bit of x stands at n or past it
 pub shifted-out : (x n : ℕ) → eqb (x / 2 ^ n) 0 ≡ ltb x (2 ^ n)

@@ -12,7 +12,7 @@ use Rattle.expression.specs.Limits.{workspaceNeed}
 use Rattle.expression.specs.Commands.{oneOperand, twoOperands, isCommand, operandCount, commandOf, readCommand, readAt}
 use Rattle.expression.specs.Effects.{effect}
 use Rattle.expression.specs.Reading.{noCounts, counted, countFault, behind, readFrom, reading}
-use Rattle.expression.specs.Checks.{Request, firstOf, isFaulty, faultNumber, faultPlace, countsOf, isLimit, overlongTest, limitsTest, crampedTest, clashTest, faultTest, unjoinedTest, absentTest, checks, check}
+use Rattle.expression.specs.Checks.{Request, firstOf, isFaulty, faultNumber, faultPlace, countsOf, isLimit, overlongTest, limitsTest, crampedTest, clashTest, faultTest, unjoinedTest, absentTest, checks, check, depthOf}
 
 same : Checked → Checked → Bool
 same (Passed y) (Passed z) = eqb (y .atoms) (z .atoms) && eqb (y .rules) (z .rules) && eqb (y .depth) (z .depth) && eqb (y .deepest) (z .deepest)
@@ -31,7 +31,7 @@ passed n m d = Passed (record { atoms = n; rules = m; depth = 1; deepest = d })
 -- bytes, limits and assumptions, with just the room that is needed
 row : List ℕ → ℕ → ℕ → ℕ → ℕ → Checked → Row
 row s P G i o c = record {
-  asked = record { bytes = s; pairLimit = P; subsetLimit = G; room = workspaceNeed P G; assumedTrue = i; assumedFalse = o };
+  asked = record { bytes = s; pairLimit = P; subsetLimit = G; room = workspaceNeed (depthOf labelCount s) P G; assumedTrue = i; assumedFalse = o };
   says = c;
 }
 
@@ -57,6 +57,10 @@ listed = 0x11 ∷ 0 ∷ 0x12 ∷ 1 ∷ 0x21 ∷ 0x41 ∷ 0 ∷ 1 ∷ []
 five : List ℕ
 five = 0x11 ∷ 0 ∷ times 4 (0x11 ∷ 0 ∷ 0x21 ∷ [])
 
+-- eight operands at once
+eight : List ℕ
+eight = times 8 (0x12 ∷ 0 ∷ []) ++ times 7 (0x21 ∷ [])
+
 rows : List Row
 rows =
     row listed 32 32 0 0 (passed 1 1 2)
@@ -69,11 +73,17 @@ rows =
     ∷ row (0x11 ∷ 8 ∷ []) 32 32 0 0 (Refused 7 0)
     ∷ row (0x41 ∷ 0 ∷ []) 32 32 0 0 (Refused 6 0)
     ∷ row (0x41 ∷ 0 ∷ 0 ∷ []) 32 32 0 0 (Refused 8 0)
-    -- an overlong expression, limits and room come before what is read, and a clash behind all that is
+    -- an overlong expression and limits come before what is read, and a clash behind all that is
     ∷ row (times 4097 (0 ∷ [])) 0 32 3 1 (Refused 1 0)
     ∷ row [] 0 1025 3 1 (Refused 2 0)
-    ∷ roomed 0 (row [] 1024 1024 3 1 (Refused 3 0))
     ∷ row [] 32 32 1 1 (Refused 12 0)
+    -- 02, Item 8: so do 5 to 12 come before too little room, and 13 and 4 behind it
+    ∷ roomed 0 (row [] 1024 1024 3 1 (Refused 12 0))
+    ∷ roomed 0 (row (opening ++ (0x99 ∷ [])) 32 32 2 2 (Refused 5 5))
+    ∷ roomed 0 (row (opening ++ (0x11 ∷ 0 ∷ [])) 32 32 2 2 (Refused 12 7))
+    ∷ roomed 0 (row listed 32 32 2 2 (Refused 3 0))
+    ∷ roomed 3263 (row listed 32 32 1 1 (Refused 3 0))
+    ∷ roomed 3264 (row listed 32 32 1 1 (Refused 4 0))
     -- 1 alone; with a byte less the bytes are read
     ∷ row (times 4097 (0 ∷ [])) 32 32 0 0 (Refused 1 0)
     ∷ row (times 4096 (0 ∷ [])) 32 32 0 0 (Refused 5 0)
@@ -83,16 +93,18 @@ rows =
     ∷ row listed 1025 32 0 0 (Refused 2 0)
     ∷ row listed 32 1025 0 0 (Refused 2 0)
     ∷ roomed 0 (row listed 1025 32 0 0 (Refused 2 0))
-    ∷ roomed 27 (row listed 1 1 0 0 (passed 1 1 2))
-    ∷ roomed 9455616 (row listed 1024 1024 0 0 (passed 1 1 2))
-    -- 3 alone, by one word
-    ∷ roomed 9791 (row listed 32 32 0 0 (Refused 3 0))
-    ∷ roomed 9792 (row listed 32 32 0 0 (passed 1 1 2))
-    ∷ roomed 9455615 (row listed 1024 1024 0 0 (Refused 3 0))
-    -- 4 alone; 3, 5, 11, 12 and 13 before it: the atom that clashes is absent (40 of five, bit 63), or another that is assumed
+    ∷ roomed 9 (row listed 1 1 0 0 (passed 1 1 2))
+    ∷ roomed 3151872 (row listed 1024 1024 0 0 (passed 1 1 2))
+    -- 3 alone, by one word: of two operands, of the most, and of one
+    ∷ roomed 3263 (row listed 32 32 0 0 (Refused 3 0))
+    ∷ roomed 3264 (row listed 32 32 0 0 (passed 1 1 2))
+    ∷ roomed 9455615 (row eight 1024 1024 0 0 (Refused 3 0))
+    ∷ roomed 9455616 (row eight 1024 1024 0 0 (passed 0 8 8))
+    ∷ roomed 2175 (row (0x11 ∷ 7 ∷ []) 32 32 0 0 (Refused 3 0))
+    ∷ roomed 2176 (row (0x11 ∷ 7 ∷ []) 32 32 0 0 (passed 1 0 1))
+    -- 4 alone; 5, 11, 12 and 13 before it: the atom that clashes is absent (40 of five, bit 63), or another that is assumed
     ∷ row listed 32 32 1 1 (Refused 4 0)
     ∷ row five 32 32 18 16 (Refused 4 0)
-    ∷ roomed 9791 (row listed 32 32 1 1 (Refused 3 0))
     ∷ row (0x99 ∷ []) 32 32 1 1 (Refused 5 0)
     ∷ row (opening ++ (0x21 ∷ [])) 32 32 1 1 (Refused 11 5)
     ∷ row (opening ++ (0x11 ∷ 0 ∷ [])) 32 32 1 1 (Refused 12 7)
@@ -134,7 +146,7 @@ rows =
     ∷ row (0x11 ∷ 0 ∷ 0x11 ∷ 1 ∷ []) 32 32 0 0 (Refused 12 4)
     -- a ninth operand
     ∷ row (times 9 (0x11 ∷ 0 ∷ [])) 32 32 0 0 (Refused 10 16)
-    ∷ row (times 8 (0x12 ∷ 0 ∷ []) ++ times 7 (0x21 ∷ [])) 32 32 0 0 (passed 0 8 8)
+    ∷ row eight 32 32 0 0 (passed 0 8 8)
     -- a 64th atom that would also be a ninth operand; 63 atoms are read
     ∷ row (times 8 (0x11 ∷ 0 ∷ []) ++ times 55 (0x21 ∷ 0x11 ∷ 0 ∷ []) ++ (0x11 ∷ 0 ∷ [])) 32 32 0 0 (Refused 9 181)
     ∷ row (0x11 ∷ 0 ∷ times 62 (0x11 ∷ 0 ∷ 0x21 ∷ [])) 32 32 (2 ^ 62) 0 (passed 63 0 2)
@@ -145,6 +157,6 @@ right : Row → Bool
 right r = same (check labelCount (r .asked)) (r .says)
 
 examples : every right rows ≡ true
-unfolding every right rows row passed roomed times opening listed five same check checks overlongTest limitsTest crampedTest clashTest faultTest unjoinedTest absentTest isLimit countsOf faultPlace faultNumber isFaulty firstOf reading readFrom behind
+unfolding every right rows row passed roomed times opening listed five eight same check checks overlongTest limitsTest crampedTest clashTest faultTest unjoinedTest absentTest depthOf isLimit countsOf faultPlace faultNumber isFaulty firstOf reading readFrom behind
     countFault counted effect noCounts readAt readCommand commandOf operandCount isCommand twoOperands oneOperand
 examples = refl

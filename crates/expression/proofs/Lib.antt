@@ -7,5 +7,6 @@ pub mod Accepted
 pub mod Numbers
 pub mod Moving
 pub mod Clashes
+pub mod Cramped
 pub mod Remaining
 pub mod Examples

@@ -1,4 +1,4 @@
--- A test moved behind others in a list of tests: which answers change, and to what. Assumes nothing.
+-- A test taken out of a list of tests, and one put behind others for it: which answers change, and to what. Assumes nothing.
 use mathlib.Core.Path.{_≡_, refl, sym, ap, _∙_}
 use mathlib.Core.Bool.{Bool, true, false, cond}
 use mathlib.Core.List.{List, [], _∷_, _++_}
@@ -20,30 +20,33 @@ else-only n at (t ∷ ts) h e = step (t .refuses) refl (λ k. else-only n at ts 
     step true r g k = absurd (h .0 r cc)
     step false r g k = (r, g k)
 
--- t stood behind xs and stands behind ys too
-module _ (z : Counts) (t : Test) (xs ys zs : List Test) where
+-- t stood behind xs; u, which may be the same, stands behind ys too
+module _ (z : Counts) (t u : Test) (xs ys zs : List Test) where
   abbrev pub before : Checked
   before = firstOf z (xs ++ (t ∷ ys ++ zs))
 
   abbrev pub after : Checked
-  after = firstOf z (xs ++ (ys ++ t ∷ zs))
+  after = firstOf z (xs ++ (ys ++ u ∷ zs))
 
-  pub moved-passes : t .refuses ≡ false → after ≡ before
+  pub moved-passes : t .refuses ≡ false → u .refuses ≡ false → after ≡ before
   unfolding firstOf
-  moved-passes h =
-      first-append z xs (ys ++ t ∷ zs)
-      ∙ ap (λ x. firstElse x xs) (first-append z ys (t ∷ zs) ∙ rw h (sym (first-append z ys zs)))
+  moved-passes h k =
+      first-append z xs (ys ++ u ∷ zs)
+      ∙ ap (λ x. firstElse x xs) (first-append z ys (u ∷ zs) ∙ rw (h, k) (sym (first-append z ys zs)))
       ∙ sym (first-append z xs (t ∷ ys ++ zs))
 
   pub moved-behind : {n at : ℕ} → firstOf z xs ≡ Refused n at → after ≡ before
   moved-behind h =
-      first-append z xs (ys ++ t ∷ zs) ∙ else-refuse z _ xs h ∙ sym (else-refuse z _ xs h) ∙ sym (first-append z xs (t ∷ ys ++ zs))
+      first-append z xs (ys ++ u ∷ zs) ∙ else-refuse z _ xs h ∙ sym (else-refuse z _ xs h) ∙ sym (first-append z xs (t ∷ ys ++ zs))
 
-  module _ (pass : Pass xs) (h : t .refuses ≡ true) where
-    pub refused-before : before ≡ Refused (t .number) (t .place)
+  module _ (pass : Pass xs) where
+    pub refused-before : t .refuses ≡ true → before ≡ Refused (t .number) (t .place)
     unfolding firstOf
-    refused-before = first-append z xs (t ∷ ys ++ zs) ∙ else-pass _ xs pass ∙ simp h
+    refused-before h = first-append z xs (t ∷ ys ++ zs) ∙ else-pass _ xs pass ∙ simp h
 
-    pub refused-after : after ≡ firstElse (Refused (t .number) (t .place)) ys
+    pub passed-after : after ≡ firstElse (firstOf z (u ∷ zs)) ys
+    passed-after = first-append z xs (ys ++ u ∷ zs) ∙ else-pass _ xs pass ∙ first-append z ys (u ∷ zs)
+
+    pub refused-after : u .refuses ≡ true → after ≡ firstElse (Refused (u .number) (u .place)) ys
     unfolding firstOf
-    refused-after = first-append z xs (ys ++ t ∷ zs) ∙ else-pass _ xs pass ∙ first-append z ys (t ∷ zs) ∙ simp h
+    refused-after h = passed-after ∙ simp h

@@ -56,10 +56,11 @@ pub record Limited (n : Counts) : Type 0 where
   pub rules : n .rules ≤ ruleLimit
   pub depth : n .depth ≤ depthLimit
   pub deepest : n .deepest ≤ depthLimit
+  pub within : n .depth ≤ n .deepest
 
 pub none-limited : Limited noCounts
 unfolding noCounts
-none-limited = record { atoms = zero-le; rules = zero-le; depth = zero-le; deepest = zero-le }
+none-limited = record { atoms = zero-le; rules = zero-le; depth = zero-le; deepest = zero-le; within = zero-le }
 
 unrefused : (b : Bool) (f m : ℕ) → cond b (suc f) m ≡ 0 → (b ≡ false) × (m ≡ 0)
 unrefused true f m h = absurd (omega arith)
@@ -74,15 +75,15 @@ counted-limited n c f h = step (effect c) f
         let p = unrefused _ _ _ f in
         let a = leb-false atomLimit (n .atoms) (p .0) in
         let d = leb-false depthLimit (n .depth) (unrefused _ _ _ (p .1) .0) in
-        record { atoms = omega arith; rules = omega arith; depth = omega arith; deepest = omega arith }
+        record { atoms = omega arith; rules = omega arith; depth = omega arith; deepest = omega arith; within = omega arith }
     step (Push leaf.Rule) f =
         let p = unrefused _ _ _ f in
         let a = leb-false ruleLimit (n .rules) (p .0) in
         let d = leb-false depthLimit (n .depth) (unrefused _ _ _ (p .1) .0) in
-        record { atoms = omega arith; rules = omega arith; depth = omega arith; deepest = omega arith }
-    step Unite f = record { atoms = omega arith; rules = omega arith; depth = omega arith; deepest = omega arith }
-    step Change f = record { atoms = omega arith; rules = omega arith; depth = omega arith; deepest = omega arith }
-    step Pass f = record { atoms = omega arith; rules = omega arith; depth = omega arith; deepest = omega arith }
+        record { atoms = omega arith; rules = omega arith; depth = omega arith; deepest = omega arith; within = omega arith }
+    step Unite f = record { atoms = omega arith; rules = omega arith; depth = omega arith; deepest = omega arith; within = omega arith }
+    step Change f = record { atoms = omega arith; rules = omega arith; depth = omega arith; deepest = omega arith; within = omega arith }
+    step Pass f = record { atoms = omega arith; rules = omega arith; depth = omega arith; deepest = omega arith; within = omega arith }
 
 -- ---- a command that passes 9 to 11 has its operands, and leaves one at least
 

@@ -1,4 +1,4 @@
--- The checks before any table (01, Outcomes; 02, Item 4): ONE list, in the order in which they are tested. Assumes nothing.
+-- The checks before any table (01, Outcomes; 02, Items 4 and 8): ONE list, in the order in which they are tested. Assumes nothing.
 use mathlib.Core.Bool.{Bool, true, false, cond, not, _&&_}
 use mathlib.Core.List.{List, [], _∷_}
 use Prim.Native.Nat.{ℕ, _+_, _^_}
@@ -8,6 +8,8 @@ use lib.ListN.{length}
 use Rattle.expression.specs.declared.Counts.{Counts}
 use Rattle.expression.specs.declared.Checked.{Checked}
 use Rattle.expression.specs.declared.Checked.the-variants.{Passed, Refused}
+use Rattle.expression.specs.declared.Outcome.{Outcome}
+use Rattle.expression.specs.declared.Outcome.the-variants as outcome
 use Rattle.expression.specs.Limits.{byteLimit, tableLimit, workspaceNeed}
 use Rattle.expression.specs.Refusals.{overlong, limits, cramped, clash, unjoined, absent}
 use Rattle.expression.specs.Reading.{Reading, faulty, whole, noCounts, reading}
@@ -60,9 +62,6 @@ overlongTest s = record { refuses = ltb byteLimit (length s); number = overlong;
 unfoldable pub limitsTest : ℕ → ℕ → Test
 limitsTest P G = record { refuses = not (isLimit P && isLimit G); number = limits; place = 0 }
 
-unfoldable pub crampedTest : ℕ → ℕ → ℕ → Test
-crampedTest P G room = record { refuses = ltb room (workspaceNeed P G); number = cramped; place = 0 }
-
 -- some atom is assumed true and false
 unfoldable pub clashTest : ℕ → ℕ → Test
 clashTest i o = record { refuses = not (eqb (bitAnd i o) 0); number = clash; place = 0 }
@@ -74,19 +73,23 @@ faultTest r = record { refuses = isFaulty r; number = faultNumber r; place = fau
 unfoldable pub unjoinedTest : List ℕ → Reading → Test
 unjoinedTest s r = record { refuses = not (eqb (countsOf r .depth) 1); number = unjoined; place = length s }
 
+-- under the words for d operands at a time
+unfoldable pub crampedTest : ℕ → ℕ → ℕ → ℕ → Test
+crampedTest d P G room = record { refuses = ltb room (workspaceNeed d P G); number = cramped; place = 0 }
+
 -- an assumption on an atom that is none of the n
 unfoldable pub absentTest : List ℕ → ℕ → ℕ → ℕ → Test
 absentTest s n i o = record { refuses = not (ltb i (2 ^ n) && ltb o (2 ^ n)); number = absent; place = length s }
 
--- ---- in their order: 1 to 3, 5 to 13, then 4 (02, Item 4: directly after 13)
+-- ---- in their order: 1, 2, 5 to 12, then 3 (02, Item 8: directly after 12), 13, then 4 (02, Item 4: directly after 13)
 
 unfoldable pub checks : Request → Reading → List Test
 checks a r =
     overlongTest (a .bytes)
     ∷ limitsTest (a .pairLimit) (a .subsetLimit)
-    ∷ crampedTest (a .pairLimit) (a .subsetLimit) (a .room)
     ∷ faultTest r
     ∷ unjoinedTest (a .bytes) r
+    ∷ crampedTest (countsOf r .deepest) (a .pairLimit) (a .subsetLimit) (a .room)
     ∷ absentTest (a .bytes) (countsOf r .atoms) (a .assumedTrue) (a .assumedFalse)
     ∷ clashTest (a .assumedTrue) (a .assumedFalse)
     ∷ []
@@ -94,6 +97,28 @@ checks a r =
 unfoldable pub check : ℕ → Request → Checked
 check K a = let r = reading K (a .bytes) in firstOf (countsOf r) (checks a r)
 
--- those of the bytes alone
+-- 5 to 12: those that read the bytes
 unfoldable pub checkBytes : ℕ → List ℕ → Checked
 checkBytes K s = let r = reading K s in firstOf (countsOf r) (faultTest r ∷ unjoinedTest s r ∷ [])
+
+-- 1, then 5 to 12: those of the bytes alone
+unfoldable pub checkSheet : ℕ → List ℕ → Checked
+checkSheet K s = let r = reading K s in firstOf (countsOf r) (overlongTest s ∷ faultTest r ∷ unjoinedTest s r ∷ [])
+
+-- ---- 02, Item 8: what the depth asks
+
+-- d: the most operands that the expression has at any moment
+unfoldable pub depthOf : ℕ → List ℕ → ℕ
+depthOf K s = countsOf (reading K s) .deepest
+
+-- the words of workspace that a request needs
+abbrev pub needOf : ℕ → Request → ℕ
+needOf K a = workspaceNeed (depthOf K (a .bytes)) (a .pairLimit) (a .subsetLimit)
+
+-- yes with d, or the refusal
+abbrev pub depthTold : Checked → Outcome
+depthTold (Passed z) = outcome.Yes (z .deepest)
+depthTold (Refused n at) = outcome.Refused n at
+
+unfoldable pub depthOutcome : ℕ → List ℕ → Outcome
+depthOutcome K s = depthTold (checkSheet K s)

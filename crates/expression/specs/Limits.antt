@@ -31,9 +31,13 @@ rowWords G = G + 2
 abbrev pub areaWords : ℕ → ℕ → ℕ
 areaWords P G = P * rowWords G
 
--- how many areas a workspace has: one for each operand, and scratch
-abbrev pub areaCount : ℕ
-areaCount = depthLimit + 1
+-- 02, Item 8: the areas of an expression that has d operands at most at a time: one for each, and scratch
+abbrev pub areasFor : ℕ → ℕ
+areasFor d = d + 1
 
-abbrev pub workspaceNeed : ℕ → ℕ → ℕ
-workspaceNeed P G = areaCount * areaWords P G
+-- the most that there are
+abbrev pub areaCount : ℕ
+areaCount = areasFor depthLimit
+
+abbrev pub workspaceNeed : ℕ → ℕ → ℕ → ℕ
+workspaceNeed d P G = areasFor d * areaWords P G

@@ -10,7 +10,7 @@ pub const RULE_LIMIT: u64 = 256;
 // Operands on the stack at a time.
 pub const DEPTH_LIMIT: u64 = 8;
 
-// Areas of a workspace: one for each operand, and scratch.
+// The most areas of a workspace: one for each operand, and scratch.
 pub const AREAS: usize = DEPTH_LIMIT as usize + 1;
 
 // The most that the limits P and G may be.

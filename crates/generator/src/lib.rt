@@ -1,4 +1,4 @@
-// Pseudo-random sheets, limits and pins, small enough for the oracle: at most 6 atoms and 6 rules where a sheet is valid.
+// Pseudo-random sheets, limits, pins and rooms, small enough for the oracle: at most 6 atoms and 6 rules where a sheet is valid.
 ghost use mathlib.Core.Path.{_≡_};
 ghost use Prim.Native.Nat.{_+_, _*_, _<_, _≤_};
 ghost use lib.ListN.{length, take};
@@ -239,4 +239,43 @@ pub fn pins(seed: u64) -> u64 {
         5 => seed & 0x8000000000000040,
         _ => 0,
     }
+}
+
+// ---- rooms: how many words of workspace are lent
+
+// Enough for both limits of 32, and for one of 64 beside one of 32; not always for both of 64.
+pub const ROOM: usize = 20000;
+
+// Mostly just the words needed; else one less, all there are, or some number.
+pub fn room(x: u64, need: usize) -> u64 {
+    match x % 8 {
+        0 => least(less(need)),
+        1 => ROOM as u64,
+        2 => x / 8 % 20000,
+        _ => least(need),
+    }
+}
+
+fn least(n: usize) -> u64 {
+    if n > ROOM {
+        return ROOM as u64;
+    }
+    n as u64
+}
+
+fn less(n: usize) -> usize {
+    if n == 0 {
+        return 0;
+    }
+    n - 1
+}
+
+// How many of so many words are lent.
+pub fn lent(room: u64, words: usize) -> usize
+    ensures { λ r. ⌜ r ≤ words ⌝ }
+{
+    if room > words as u64 {
+        return words;
+    }
+    room as usize
 }

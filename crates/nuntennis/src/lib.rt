@@ -6,6 +6,7 @@ use records::Record;
 ghost use mathlib.Core.Path.{_≡_};
 ghost use lib.ListN.{length};
 ghost use Rattle.labels.specs.Labels.{labelCount};
+ghost use Rattle.expression.specs.Checks.{depthOutcome};
 ghost use Rattle.decisions.specs.Outcomes.{groundedOutcome, plainOutcome};
 ghost use Rattle.leaves.specs.declared.Tables.the-variants.{Pairs};
 ghost use Rattle.reports.specs.Reports.{reportOf};
@@ -16,6 +17,20 @@ ghost use Rattle.host_words.specs.Answers.{returned, unlessShort, workspaceAfte
 ghost use Rattle.host_words.specs.Reported.{reportWordsOf};
 ghost use Rattle.host_words.specs.Walked.{progressWordsOf};
 ghost use Rattle.nuntennis.specs.Reported.{pairsAsked, triplesAsked};
+
+// The most parts that the sheet has at a time, for which a host lends words (02, Item 8).
+#[no_mangle]
+pub extern "C" fn nuntennis_depth(sheet: &[u8], answer: &mut [u64]) -> u64
+    ensures { λ r. ⌜ r ≡ returned (now (answer .entry)) ⌝ }
+    ensures { λ r. ⌜ now (answer .exit) ≡ unlessShort (now (answer .entry)) (now (answer .entry)) (answerOf (depthOutcome labelCount (now (sheet .entry))) (now (answer .entry))) ⌝ }
+{
+    if answer.len() < ANSWER_WORDS {
+        return 0;
+    }
+    let o = checks::outcomes::depth(sheet);
+    write_answer(answer, o);
+    1
+}
 
 // The grounded decision: nothing of it is free, and a yes shows the first grounded plan (02, Item 5).
 #[no_mangle]

@@ -1,4 +1,4 @@
-// The checks that come before any table: 1 to 3, 5 to 13, then 4 (02, Item 4), then 14.
+// The checks that come before any table: 1, 2, 5 to 12, then 3 (02, Item 8), 13, then 4 (02, Item 4), then 14.
 ghost use Prim.Native.Nat.{_≤_};
 use expression::limits::BYTE_LIMIT;
 use expression::limits::TABLE_LIMIT;
@@ -31,11 +31,16 @@ pub fn check(s: &[u8], q: Request) -> Policy {
     ended(s, p, q)
 }
 
-// 12, 13, 4 and 14.
+// 12, 3, 13, 4 and 14.
 fn ended(s: &[u8], p: Policy, q: Request) -> Policy {
-    let fault = end_fault(p, q);
-    if fault != 0 {
-        return refused_at(p, fault, s.len());
+    if p.depth != 1 {
+        return refused_at(p, UNJOINED, s.len());
+    }
+    if q.room < workspace_need(p.deepest, q) as u64 {
+        return refused_at(p, CRAMPED, 0);
+    }
+    if has_absent(q.assumed_true | q.assumed_false, p.atoms.count) {
+        return refused_at(p, ABSENT, s.len());
     }
     if q.assumed_true & q.assumed_false != 0 {
         return refused_at(p, CLASH, 0);
@@ -55,17 +60,6 @@ fn refused_at(p: Policy, fault: u64, place: usize) -> Policy {
     next
 }
 
-// 12 and 13; 0 where both pass.
-fn end_fault(p: Policy, q: Request) -> u64 {
-    if p.depth != 1 {
-        return UNJOINED;
-    }
-    if has_absent(q.assumed_true | q.assumed_false, p.atoms.count) {
-        return ABSENT;
-    }
-    0
-}
-
 // Whether a command starts at the offset that a report asks for, of a sheet without faults.
 fn is_start(s: &[u8], q: Request) -> bool {
     if !q.is_report {
@@ -77,7 +71,7 @@ fn is_start(s: &[u8], q: Request) -> bool {
     read_to(s, q.asked).at == q.asked
 }
 
-// 1 to 3; 0 where all pass.
+// 1 and 2; 0 where both pass.
 fn request_fault(bytes: usize, q: Request) -> u64 {
     if bytes > BYTE_LIMIT {
         return OVERLONG;
@@ -87,9 +81,6 @@ fn request_fault(bytes: usize, q: Request) -> u64 {
     }
     if !is_limit(q.subset_limit) {
         return LIMITS;
-    }
-    if q.room < workspace_need(q) as u64 {
-        return CRAMPED;
     }
     0
 }
@@ -101,18 +92,39 @@ fn is_limit(x: u64) -> bool {
     x <= TABLE_LIMIT
 }
 
-// 9 × P × (G + 2), for limits that are such: they count modulo 1025.
-pub fn workspace_need(q: Request) -> usize
+// What a sheet needs that is read whole.
+pub fn need_of(s: &[u8], q: Request) -> usize
     ensures { λ r. ⌜ r ≤ 9455616 ⌝ }
 {
-    areas(q.pair_limit % 1025, q.subset_limit % 1025)
+    workspace_need(read_to(s, s.len()).deepest, q)
 }
 
-fn areas(p: u64, g: u64) -> usize
-    requires { ⌜ (p ≤ 1024) × (g ≤ 1024) ⌝ }
+// (d + 1) × P × (G + 2), for a depth that is such.
+fn workspace_need(d: u64, q: Request) -> usize
     ensures { λ r. ⌜ r ≤ 9455616 ⌝ }
 {
-    (9 * (p * (g + 2))) as usize
+    areas((d % 9 + 1) as usize, area(q))
+}
+
+fn areas(n: usize, words: usize) -> usize
+    requires { ⌜ (n ≤ 9) × (words ≤ 1050624) ⌝ }
+    ensures { λ r. ⌜ r ≤ 9455616 ⌝ }
+{
+    n * words
+}
+
+// P × (G + 2), for limits that are such: they count modulo 1025.
+pub fn area(q: Request) -> usize
+    ensures { λ r. ⌜ r ≤ 1050624 ⌝ }
+{
+    product(q.pair_limit % 1025, q.subset_limit % 1025)
+}
+
+fn product(p: u64, g: u64) -> usize
+    requires { ⌜ (p ≤ 1024) × (g ≤ 1024) ⌝ }
+    ensures { λ r. ⌜ r ≤ 1050624 ⌝ }
+{
+    (p * (g + 2)) as usize
 }
 
 // Whether an atom is in the mask that isn't among the first n; n is at most 63.

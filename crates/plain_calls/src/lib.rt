@@ -1,8 +1,8 @@
 // The plain decision, as the definitions say it. It has no `requires`.
 use checks::checking::check;
+use checks::frames::frame_for;
 use expression::Checked;
 use expression::Outcome;
-use expression::limits::AREAS;
 ghost use mathlib.Core.Path.{_≡_};
 ghost use lib.ListN.{length};
 ghost use Rattle.labels.specs.Labels.{labelCount};
@@ -24,11 +24,10 @@ pub fn plain(
     ensures { λ r. ⌜ now (ws .exit) ≡ wordsAfter labelCount (request (now (s .entry)) p g (length (now (ws .entry))) «assumed_true» «assumed_false») (now (ws .entry)) ⌝ }
 {
     let r = check(s, p, g, ws.len(), assumed_true, assumed_false);
-    let Checked::Passed(_) = r else {
+    let Checked::Passed(n) = r else {
         return checks::outcomes::refusal(r);
     };
-    let limit = p as usize;
-    let need = AREAS * (limit * (g as usize + 2));
-    let o = engine::decide_plain(s, ws, AREAS, limit, need, assumed_true, assumed_false);
+    let f = frame_for(n.deepest, p, g);
+    let o = engine::decide_plain(s, ws, f.areas, f.limit, f.need, assumed_true, assumed_false);
     engine::unshown(o)
 }

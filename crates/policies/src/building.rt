@@ -106,16 +106,24 @@ pub fn apply(p: Policy, byte: u8, i: u64, j: u64) -> Policy {
     }
 }
 
-fn add_atom(p: Policy, label: u64) -> Policy {
+// With a new operand.
+fn deeper(p: Policy) -> Policy {
     let mut next = p;
     next.depth = more(p.depth);
+    if next.depth > p.deepest {
+        next.deepest = next.depth;
+    }
+    next
+}
+
+fn add_atom(p: Policy, label: u64) -> Policy {
+    let mut next = deeper(p);
     next.atoms = added(p.atoms, next.depth, label);
     next
 }
 
 fn add_rule(p: Policy, label: u64) -> Policy {
-    let mut next = p;
-    next.depth = more(p.depth);
+    let mut next = deeper(p);
     next.rules = added(p.rules, next.depth, label);
     next
 }

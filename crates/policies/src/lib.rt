@@ -18,7 +18,9 @@ pub struct Policy {
     // the refusal of the last command, 0 if none, and where it started
     pub fault: u64,
     pub place: usize,
+    // how many operands there are, and the most there were at once
     pub depth: u64,
+    pub deepest: u64,
     pub atoms: Members,
     pub rules: Members,
     // for each rule the three sets of atoms (01: head, needed, barring)
@@ -34,6 +36,7 @@ pub fn no_policy() -> Policy {
         fault: 0,
         place: 0,
         depth: 0,
+        deepest: 0,
         atoms: no_members(),
         rules: no_members(),
         heads: 0,

@@ -17,10 +17,10 @@ use Rattle.expression.specs.declared.Checked.the-variants.{Passed}
 use Rattle.expression.specs.declared.Located.{Located}
 use Rattle.expression.specs.declared.Located.the-variants.{Before, Nowhere}
 use Rattle.expression.specs.declared.Read.the-variants.{Command as Got}
-use Rattle.expression.specs.Limits.{atomLimit, depthLimit, rowWords, areaCount}
+use Rattle.expression.specs.Limits.{atomLimit, depthLimit, rowWords, areasFor}
 use Rattle.expression.specs.Commands.{Suits, readAt}
 use Rattle.expression.specs.Reading.{depthAfter, counted, capped}
-use Rattle.expression.specs.Checks.{Request, check}
+use Rattle.expression.specs.Checks.{Request, check, depthOf, needOf}
 use Rattle.expression.specs.Places.{locate}
 use Rattle.expression.proofs.Totals.{counted-limited, capped-limited, passes-operands}
 use Rattle.expression.proofs.Accepted.{Accepted, check-accepted}
@@ -39,7 +39,7 @@ use Rattle.forms.specs.Forms.{areZero, areTables}
 use Rattle.forms.proofs.Found.{zero-is, found-counts, found-length, found-sound, found-words}
 use Rattle.records.specs.declared.Record.{Record}
 use Rattle.records.specs.Steps.{countsIn, found, isFormed, formedAt}
-use Rattle.record_tests.proofs.Reached.{Here, located-here, here-passes, here-deepest}
+use Rattle.record_tests.proofs.Reached.{Here, located-here, here-within, here-passes, here-deepest}
 use Rattle.advances.proofs.Bare.{bare, stands-bare}
 
 -- the areas of t tables are within the words needed
@@ -59,6 +59,9 @@ module _ (a : Request) (r : Record) (ws : List ℕ) where
 
   abbrev p : ℕ
   p = a .pairLimit
+
+  abbrev areas : ℕ
+  areas = areasFor (depthOf labelCount (a .bytes))
 
   -- the test by its parts
   both-tests : (n : Counts) (x : Located) → locate labelCount (a .bytes) (r .place) ≡ x → formedAt labelCount a r ws ≡ Before n → (x ≡ Before n) × (isFormed labelCount a n r ws ≡ true)
@@ -81,7 +84,7 @@ module _ (a : Request) (r : Record) (ws : List ℕ) where
     pub here : Here labelCount (a .bytes) z (r .place) n
     here = located-here labelCount (a .bytes) z (r .place) n (A .joined) located
 
-    tests : (r .tables ≡ n .depth) × (areZero (drop (r .tables) (r .counts)) ≡ true) × (areTables labelCount w p (countsIn labelCount a r) (take (areaCount * (p * w)) ws) ≡ true)
+    tests : (r .tables ≡ n .depth) × (areZero (drop (r .tables) (r .counts)) ≡ true) × (areTables labelCount w p (countsIn labelCount a r) (take (needOf labelCount a) ws) ≡ true)
     unfolding isFormed
     tests =
         let f = and-both (eqb (r .tables) (n .depth)) _ (both-tests n (locate labelCount (a .bytes) (r .place)) refl formed .1) in
@@ -90,17 +93,20 @@ module _ (a : Request) (r : Record) (ws : List ℕ) where
     pub deep : r .tables ≡ n .depth
     deep = tests .0
 
-    shallow : r .tables ≤ depthLimit
-    shallow = omega (arith, deep, here .1 .1 .depth)
+    shallow : r .tables ≤ depthOf labelCount (a .bytes)
+    shallow = omega (arith, deep, here-within labelCount (a .bytes) z here (A .deepest))
+
+    most : depthOf labelCount (a .bytes) ≤ depthLimit
+    most = omega (arith, A .deepest, A .joined .limited .deepest)
 
     -- the next atom has a number
     pub numbered : n .atoms ≤ atomLimit
     numbered = here .1 .1 .atoms
 
     many : length (countsIn labelCount a r) ≡ r .tables
-    many = length-take-le (r .tables) (r .counts) (omega (arith, shallow, eight))
+    many = length-take-le (r .tables) (r .counts) (omega (arith, shallow, most, eight))
 
-    pub long : areaCount * (p * w) ≤ length ws
+    pub long : needOf labelCount a ≤ length ws
     long = omega (arith, A .room, room)
 
     pub found-many : length (found labelCount a r ws) ≡ r .tables
@@ -110,14 +116,14 @@ module _ (a : Request) (r : Record) (ws : List ℕ) where
     bare-many = length-map (found labelCount a r ws) bare ∙ found-many
 
     -- the tables found stand
-    pub stands : Stands Nothing areaCount w p (map bare (found labelCount a r ws)) (drop (areaCount * (p * w)) ws) ws [] (r .counts)
-    stands =
-        let few : length (countsIn labelCount a r) ≤ areaCount = omega (arith, many, shallow) in
-        stands-bare areaCount w p (found labelCount a r ws) (drop (areaCount * (p * w)) ws) ws (r .counts)
-        (found-words w p labelCount areaCount (countsIn labelCount a r) ws (tests .2) few long)
-        (found-sound w p labelCount areaCount (countsIn labelCount a r) ws (tests .2) few long)
-        (omega (arith, found-many, shallow)) (omega arith)
-        (counts-are (r .tables) (r .counts) (found labelCount a r ws) (found-counts w p (countsIn labelCount a r) ws) found-many eight (tests .1))
+    pub stands : {d : ℕ} → d ≡ areas → Stands Nothing d w p (map bare (found labelCount a r ws)) (drop (needOf labelCount a) ws) ws [] (r .counts)
+    stands e =
+        let few : length (countsIn labelCount a r) ≤ areas = omega (arith, many, shallow) in
+        rw e (stands-bare areas w p (found labelCount a r ws) (drop (needOf labelCount a) ws) ws (r .counts)
+        (found-words w p labelCount areas (countsIn labelCount a r) ws (tests .2) few long)
+        (found-sound w p labelCount areas (countsIn labelCount a r) ws (tests .2) few long)
+        (omega (arith, found-many, shallow)) (omega (arith, most))
+        (counts-are (r .tables) (r .counts) (found labelCount a r ws) (found-counts w p (countsIn labelCount a r) ws) found-many eight (tests .1)))
 
     -- ---- the command at its place
 
@@ -125,11 +131,11 @@ module _ (a : Request) (r : Record) (ws : List ℕ) where
       pub suits : Suits labelCount c
       suits = read-suits labelCount (a .bytes) (r .place) c next read
 
-      passes-depth : Meets c areaCount (n .depth)
-      passes-depth = (passes-operands n c (here-passes labelCount (a .bytes) z here read), omega (arith, here-deepest labelCount (a .bytes) z here read, A .joined .limited .deepest))
+      passes-depth : Meets c areas (n .depth)
+      passes-depth = (passes-operands n c (here-passes labelCount (a .bytes) z here read), omega (arith, here-deepest labelCount (a .bytes) z here read, A .deepest))
 
-      pub meets : Meets c areaCount (r .tables)
-      meets = rw deep passes-depth
+      pub meets : {d : ℕ} → d ≡ areas → Meets c d (r .tables)
+      meets e = rw (e, deep) passes-depth
 
       -- how many tables it leaves
       pub tables-after : (m : Counts) → m ≡ capped (counted n c) → m .depth ≡ length (act (tables (pairs labelCount) (assumed a)) (n .atoms) c (found labelCount a r ws))

@@ -18,11 +18,15 @@ use Rattle.expression.specs.Reading.{noCounts, counted, countFault, Placed}
 use Rattle.expression.specs.Places.{locateFrom, locate}
 use Rattle.expression.proofs.Commands.{read-ends}
 use Rattle.expression.proofs.Checks.{Joined}
-use Rattle.expression.proofs.Remaining.{Remains, remains-start, remains-next, next-deepest}
+use Rattle.expression.proofs.Remaining.{Remains, remains-start, remains-next, remains-deepest, next-deepest}
 
 module _ (K : ℕ) (s : List ℕ) (z : Counts) where
   abbrev pub Here : ℕ → Counts → Type 0
   Here at n = (cs : List Placed) × Remains K s at n cs z
+
+  -- no more operands stand there than the expression has at any moment
+  pub here-within : {at : ℕ} {n : Counts} → Here at n → {d : ℕ} → z .deepest ≡ d → n .depth ≤ d
+  here-within {at} {n} h e = omega (arith, h .1 .1 .within, remains-deepest K s at n (h .0) z (h .1), e)
 
   -- over one command
   module _ {at : ℕ} {n : Counts} (h : Here at n) {c : Command} {next : ℕ} (e : readAt K s at ≡ Got c next) where

@@ -1,6 +1,5 @@
 // Whether a running record has the form asked for (01: 18), and what stands before its place.
 use expression::Located;
-use expression::limits::AREAS;
 use places::locate;
 use records::Record;
 ghost use mathlib.Core.Path.{_≡_};
@@ -9,9 +8,9 @@ ghost use Prim.Native.Nat.{ℕ, _+_, _*_, _≤_};
 ghost use lib.ListN.{length, take, drop};
 ghost use Rattle.labels.specs.Labels.{labelCount};
 ghost use Rattle.expression.specs.declared.Counts.{Counts};
-ghost use Rattle.expression.specs.Limits.{areaCount};
+ghost use Rattle.expression.specs.Limits.{areasFor, areaCount};
 ghost use Rattle.expression.specs.declared.Checked.the-variants.{Passed};
-ghost use Rattle.expression.specs.Checks.{check};
+ghost use Rattle.expression.specs.Checks.{check, depthOf};
 ghost use Rattle.forms.specs.Forms.{areZero, areTables};
 ghost use Rattle.checks.specs.Requests.{request};
 ghost use Rattle.records.specs.Steps.{formedAt};
@@ -28,9 +27,9 @@ fn are_found(ws: &[u32], counts: &[u64], t: usize, d: usize, w: usize, p: usize)
     table_forms::are_tables(&ws[..need], &counts[..t], w, p)
 }
 
-// The counts before the record's place, unless 18 refuses.
-pub fn formed_at(state: Record, ws: &[u32], s: &[u8], p: u64, g: u64) -> Located
-    requires { ⌜ ((i : ℕ) × (o : ℕ) × (z : Counts) × (check labelCount (request (now s) p g (length (now ws)) i o) ≡ Passed z)) ⌝ }
+// The counts before the record's place, unless 18 refuses. So many areas hold all the words needed.
+pub fn formed_at(state: Record, ws: &[u32], s: &[u8], areas: usize, p: u64, g: u64) -> Located
+    requires { ⌜ ((i : ℕ) × (o : ℕ) × (z : Counts) × (check labelCount (request (now s) p g (length (now ws)) i o) ≡ Passed z) × (areas ≡ areasFor (depthOf labelCount (now s)))) ⌝ }
     ensures { λ r. ⌜ ((i o : ℕ) → r ≡ formedAt labelCount (request (now (s .entry)) p g (length (now (ws .entry))) i o) state (now (ws .entry))) ⌝ }
 {
     let r = locate(s, state.place);
@@ -44,7 +43,7 @@ pub fn formed_at(state: Record, ws: &[u32], s: &[u8], p: u64, g: u64) -> Located
         ws,
         &state.counts,
         state.tables,
-        AREAS,
+        areas,
         g as usize + 2,
         p as usize,
     ) {

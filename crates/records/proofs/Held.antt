@@ -14,10 +14,10 @@ use Rattle.expression.specs.declared.Checked.the-variants.{Passed}
 use Rattle.expression.specs.declared.Located.the-variants.{Before}
 use Rattle.expression.specs.declared.Outcome.the-variants as outcome
 use Rattle.expression.specs.declared.Read.the-variants.{Command as Got}
-use Rattle.expression.specs.Limits.{depthLimit, rowWords, workspaceNeed, areaCount}
+use Rattle.expression.specs.Limits.{depthLimit, rowWords, areasFor}
 use Rattle.expression.specs.Refusals.{badRecord}
 use Rattle.expression.specs.Commands.{readAt}
-use Rattle.expression.specs.Checks.{Request, check}
+use Rattle.expression.specs.Checks.{Request, check, depthOf, needOf}
 use Rattle.expression.specs.Places.{locate}
 use Rattle.expression.proofs.Commands.{past-end}
 use Rattle.semantics.specs.Expressions.{act}
@@ -78,7 +78,7 @@ counts-dropped n us = drop-at (stackCounts us) (zeros (n - length us)) (length u
 
 -- ---- at an offset that a command starts at, or at the end, with the tables us
 
-module _ (K : ℕ) (a : Request) (us : List (List Pair)) (formed : All (Formed K (rowWords (a .subsetLimit)) (a .pairLimit)) us) (deep : length us ≤ depthLimit) (at : ℕ) (ws : List ℕ) where
+module _ (K : ℕ) (a : Request) (us : List (List Pair)) (formed : All (Formed K (rowWords (a .subsetLimit)) (a .pairLimit)) us) (deep : length us ≤ depthOf K (a .bytes)) (at : ℕ) (ws : List ℕ) where
   abbrev w : ℕ
   w = rowWords (a .subsetLimit)
 
@@ -86,7 +86,10 @@ module _ (K : ℕ) (a : Request) (us : List (List Pair)) (formed : All (Formed K
   p = a .pairLimit
 
   abbrev need : ℕ
-  need = workspaceNeed p (a .subsetLimit)
+  need = needOf K a
+
+  abbrev areas : ℕ
+  areas = areasFor (depthOf K (a .bytes))
 
   abbrev held : Step
   held = moves K a at us ws
@@ -95,19 +98,19 @@ module _ (K : ℕ) (a : Request) (us : List (List Pair)) (formed : All (Formed K
   unfolding moves
   is-found =
       ap (λ (ns : List ℕ). tablesIn w p ns (held .words)) (counts-taken depthLimit us)
-      ∙ areas-found K w p areaCount us formed (omega arith) (drop need ws)
+      ∙ areas-found K w p areas us formed (omega arith) (drop need ws)
 
   -- another stack in its place
   pub held-again : (next : ℕ) (vs : List (List Pair)) → moves K a next vs (held .words) ≡ moves K a next vs ws
   unfolding moves
-  held-again next vs = rw (areas-dropped K w p areaCount us formed (omega arith) (drop need ws))
+  held-again next vs = rw (areas-dropped K w p areas us formed (omega arith) (drop need ws))
 
   module _ (z : Counts) (passed : check K a ≡ Passed z) (n : Counts) (here : locate K (a .bytes) at ≡ Before n) (counted : length us ≡ n .depth) where
     is-formed : isFormed K a n (held .state) (held .words) ≡ true
     unfolding isFormed moves
     is-formed =
-        rw (eq-eqb (length us) (n .depth) counted, counts-dropped depthLimit us, zeros-zero (depthLimit - length us), counts-taken depthLimit us, areas-taken K w p areaCount us formed (omega arith) (drop need ws))
-        (areas-formed K w p areaCount us formed (omega arith))
+        rw (eq-eqb (length us) (n .depth) counted, counts-dropped depthLimit us, zeros-zero (depthLimit - length us), counts-taken depthLimit us, areas-taken K w p areas us formed (omega arith) (drop need ws))
+        (areas-formed K w p areas us formed (omega arith))
 
     formed-here : formedAt K a (held .state) (held .words) ≡ Before n
     unfolding formedAt moves

@@ -14,23 +14,23 @@ use Rattle.expression.specs.declared.Counts.{Counts}
 use Rattle.expression.specs.declared.Checked.the-variants.{Passed}
 use Rattle.expression.specs.declared.Located.the-variants.{Before}
 use Rattle.expression.specs.declared.Outcome.the-variants as outcome
-use Rattle.expression.specs.Limits.{depthLimit}
 use Rattle.expression.specs.Refusals.{badRecord}
 use Rattle.expression.specs.Reading.{noCounts, newAtoms, depthAfter, counted, Placed}
-use Rattle.expression.specs.Checks.{Request, check}
+use Rattle.expression.specs.Limits.{rowWords, areasFor}
+use Rattle.expression.specs.Checks.{Request, check, depthOf, needOf}
 use Rattle.expression.specs.Places.{locate}
 use Rattle.expression.proofs.Commands.{read-ends}
 use Rattle.expression.proofs.Totals.{capped-limited, passes-operands}
 use Rattle.expression.proofs.Accepted.{Accepted, check-accepted}
 use Rattle.expression.proofs.Places.{Ahead, ahead-start, ahead-step, ahead-here}
-use Rattle.expression.proofs.Remaining.{Remains, remains-start, remains-next, remains-end, Next}
+use Rattle.expression.proofs.Remaining.{Remains, remains-start, remains-next, remains-end, remains-deepest, Next}
 use Rattle.semantics.specs.Expressions.{Operations, act}
 use Rattle.semantics.proofs.Effects.{act-deep}
 use Rattle.semantics.proofs.Readings.{read-suits}
 use Rattle.tables.specs.Algebras.{tables}
 use Rattle.tables.specs.Definitions.{Pair, pairs, groundedAccepts}
 use Rattle.decisions.specs.Decisions.{assumed, commandsIn, pairsFault, newest, Walked, stopped, walked, walk, answer}
-use Rattle.workspace.specs.Workspace.{stackWords, workspaceOf}
+use Rattle.stacks.proofs.Clearing.{workspace-none}
 use Rattle.advances.proofs.Steps.{walk-nil, walk-on, walk-stops}
 use Rattle.records.specs.declared.Record.{Record}
 use Rattle.records.specs.declared.Progress.{Progress}
@@ -117,8 +117,8 @@ module _ (K : ℕ) (a : Request) where
       pub calls : walking K a r ws k ≡ moves K a at us ws
 
     start-holds : start K a r ws ≡ moves K a 0 [] ws
-    unfolding start moves startRecord workspaceOf stackWords
-    start-holds = rw (passed, start)
+    unfolding start moves startRecord
+    start-holds = rw (passed, start, workspace-none (areasFor (depthOf K s)) (rowWords (a .subsetLimit)) (a .pairLimit) (drop (needOf K a) ws))
 
     pub reached-start : Reached 0 []
     unfolding noCounts commandsIn stepped
@@ -139,8 +139,8 @@ module _ (K : ℕ) (a : Request) where
         }
 
     module _ {k : ℕ} {us : List (List Pair)} (h : Reached k us) where
-      limited : length us ≤ depthLimit
-      limited = omega (arith, h .deep, h .remains .1 .depth)
+      limited : length us ≤ depthOf K s
+      limited = omega (arith, h .deep, h .remains .1 .within, remains-deepest K s (h .at) (h .counts) (h .rest) z (h .remains), accepted .deepest)
 
       here : locate K s (h .at) ≡ Before (h .counts)
       here = sym (ahead-here K s (h .at) (h .at) (h .counts) refl (h .ahead (h .at) (omega arith)))

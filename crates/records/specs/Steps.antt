@@ -12,10 +12,10 @@ use Rattle.expression.specs.declared.Located.the-variants.{Before, Nowhere}
 use Rattle.expression.specs.declared.Outcome.{Outcome}
 use Rattle.expression.specs.declared.Outcome.the-variants as outcome
 use Rattle.expression.specs.declared.Read.the-variants.{Command as Got, Fault}
-use Rattle.expression.specs.Limits.{depthLimit, rowWords, workspaceNeed, areaCount}
+use Rattle.expression.specs.Limits.{depthLimit, rowWords, areasFor}
 use Rattle.expression.specs.Refusals.{badRecord}
 use Rattle.expression.specs.Commands.{readAt}
-use Rattle.expression.specs.Checks.{Request, check}
+use Rattle.expression.specs.Checks.{Request, check, depthOf, needOf}
 use Rattle.expression.specs.Places.{locate}
 use Rattle.semantics.specs.Expressions.{act}
 use Rattle.tables.specs.Algebras.{tables}
@@ -44,7 +44,7 @@ startRecord = record { place = 0; tables = 0; counts = countsOf {X = Pair} depth
 
 module _ (K : ℕ) (a : Request) where
   abbrev need : ℕ
-  need = workspaceNeed (a .pairLimit) (a .subsetLimit)
+  need = needOf K a
 
   -- the counts of the tables that the record says are there
   abbrev pub countsIn : Record → List ℕ
@@ -70,7 +70,7 @@ module _ (K : ℕ) (a : Request) where
   moves next us ws = record {
     state = record { place = next; tables = length us; counts = countsOf depthLimit us };
     answer = Moved;
-    words = workspaceOf areaCount (rowWords (a .subsetLimit)) (a .pairLimit) us (drop need ws);
+    words = workspaceOf (areasFor (depthOf K (a .bytes))) (rowWords (a .subsetLimit)) (a .pairLimit) us (drop need ws);
   }
 
   -- a command that leaves the tables us: 15, 16, or it is done

@@ -14,9 +14,8 @@ use Rattle.expression.specs.declared.Checked.the-variants.{Passed, Refused as S
 use Rattle.expression.specs.declared.Located.{Located}
 use Rattle.expression.specs.Places.{locate}
 use Rattle.expression.specs.Refusals.{offset}
-use Rattle.expression.specs.Limits.{workspaceNeed}
 use Rattle.expression.specs.Reading.{Placed, reading}
-use Rattle.expression.specs.Checks.{Request, check}
+use Rattle.expression.specs.Checks.{Request, check, needOf}
 use Rattle.semantics.specs.AnswerSets.{byMasks}
 use Rattle.tables.specs.Algebras.{Algebra, tables}
 use Rattle.tables.specs.Definitions.{Pair, ownTriple, pairs, flat, triples}
@@ -111,9 +110,9 @@ module _ (a : Request) (at : ℕ) where
     unfolding wordsReported
     words-nowhere h = rw (passed, wordsReported, h)
 
-    pub words-cleared : startsAt labelCount (a .bytes) at ≡ true → cleared (workspaceNeed (a .pairLimit) (a .subsetLimit)) ws ≡ wordsReported labelCount a at ws
+    pub words-cleared : startsAt labelCount (a .bytes) at ≡ true → {n : ℕ} → n ≡ needOf labelCount a → cleared n ws ≡ wordsReported labelCount a at ws
     unfolding wordsReported
-    words-cleared h = rw (passed, wordsReported, h)
+    words-cleared h e = rw (passed, wordsReported, h, e)
 
   -- ---- what the walk over tables with values answers and writes is what is asked
 

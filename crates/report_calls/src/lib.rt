@@ -1,8 +1,8 @@
 // The reports of the library, as the definitions say them. None has a `requires`.
 use checks::checking::check;
+use checks::frames::frame_for;
 use expression::Checked;
 use expression::Located;
-use expression::limits::AREAS;
 use expression::refusals::OFFSET;
 use leaves::Tables;
 use places::locate;
@@ -58,25 +58,23 @@ pub fn report(
     ensures { λ r. ⌜ now (ws .exit) ≡ wordsReported labelCount (request (now (s .entry)) p g (length (now (ws .entry))) «assumed_true» «assumed_false») asked (now (ws .entry)) ⌝ }
 {
     let r = check(s, p, g, ws.len(), assumed_true, assumed_false);
-    let Checked::Passed(_) = r else {
+    let Checked::Passed(n) = r else {
         return refused(r);
     };
     if !starts_at(s, asked) {
         return Report::Refused(OFFSET, asked);
     }
-    let limit = p as usize;
-    let w = g as usize + 2;
-    let need = AREAS * (limit * w);
+    let f = frame_for(n.deepest, p, g);
     tabulating::tabulate_here(
         s,
         asked,
         ws,
         out,
         Tables::Pairs,
-        AREAS,
-        w,
-        limit,
-        need,
+        f.areas,
+        f.width,
+        f.limit,
+        f.need,
         assumed_true,
         assumed_false,
     )
@@ -98,24 +96,23 @@ pub fn plain_report(
     ensures { λ r. ⌜ now (ws .exit) ≡ wordsReported labelCount (request (now (s .entry)) p g (length (now (ws .entry))) «assumed_true» «assumed_false») asked (now (ws .entry)) ⌝ }
 {
     let r = check(s, p, g, ws.len(), assumed_true, assumed_false);
-    let Checked::Passed(_) = r else {
+    let Checked::Passed(n) = r else {
         return refused(r);
     };
     if !starts_at(s, asked) {
         return Report::Refused(OFFSET, asked);
     }
-    let limit = p as usize;
-    let need = AREAS * (limit * (g as usize + 2));
+    let f = frame_for(n.deepest, p, g);
     tabulating::tabulate_here(
         s,
         asked,
         ws,
         out,
         Tables::Plain,
-        AREAS,
+        f.areas,
         2,
-        limit,
-        need,
+        f.limit,
+        f.need,
         assumed_true,
         assumed_false,
     )

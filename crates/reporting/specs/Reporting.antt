@@ -7,10 +7,9 @@ use lib.ListN.{length, drop}
 use Rattle.expression.specs.declared.Checked.the-variants.{Passed, Refused as Stopped}
 use Rattle.expression.specs.declared.Located.{Located}
 use Rattle.expression.specs.declared.Located.the-variants.{Before, Nowhere}
-use Rattle.expression.specs.Limits.{workspaceNeed}
 use Rattle.expression.specs.Refusals.{offset, reportShort}
 use Rattle.expression.specs.Reading.{reading}
-use Rattle.expression.specs.Checks.{Request, check}
+use Rattle.expression.specs.Checks.{Request, check, needOf}
 use Rattle.expression.specs.Places.{locate}
 use Rattle.tables.specs.Algebras.{Algebra, tables}
 use Rattle.decisions.specs.Decisions.{assumed, commandsIn, newest, Walked, stopped, walked, walk}
@@ -55,10 +54,10 @@ module _ {X : Type 0} where
   reportBuffer words out (refusedAt n p) = out
   reportBuffer words out (tableAt t) = cond (ltb (length out) (length (words t))) out (words t ++ drop (length (words t)) out)
 
--- the workspace: untouched after 1 to 14, else the words needed are zero
+-- the workspace: untouched after 1 to 14, else the words needed for the whole expression are zero
 unfoldable pub wordsReported : ℕ → Request → ℕ → List ℕ → List ℕ
 wordsReported K a at ws =
     elim (check K a) [
-      | Passed z ↦ cond (startsAt K (a .bytes) at) (cleared (workspaceNeed (a .pairLimit) (a .subsetLimit)) ws) ws
+      | Passed z ↦ cond (startsAt K (a .bytes) at) (cleared (needOf K a) ws) ws
       | Stopped n p ↦ ws
     ]

@@ -4,8 +4,7 @@ use mathlib.Core.List.{List}
 use Prim.Native.Nat.{ℕ}
 use Rattle.expression.specs.declared.Counts.{Counts}
 use Rattle.expression.specs.declared.Checked.the-variants.{Passed, Refused}
-use Rattle.expression.specs.Limits.{workspaceNeed}
-use Rattle.expression.specs.Checks.{Request, check}
+use Rattle.expression.specs.Checks.{Request, check, needOf}
 use Rattle.stacks.specs.Stacks.{cleared, wordsAfter}
 
 module _ (K : ℕ) (a : Request) (ws : List ℕ) where
@@ -13,6 +12,6 @@ module _ (K : ℕ) (a : Request) (ws : List ℕ) where
   unfolding wordsAfter
   words-stay h = rw (h, wordsAfter)
 
-  pub words-cleared : {z : Counts} → check K a ≡ Passed z → cleared (workspaceNeed (a .pairLimit) (a .subsetLimit)) ws ≡ wordsAfter K a ws
+  pub words-cleared : {z : Counts} → check K a ≡ Passed z → {n : ℕ} → n ≡ needOf K a → cleared n ws ≡ wordsAfter K a ws
   unfolding wordsAfter
-  words-cleared h = rw (h, wordsAfter)
+  words-cleared h e = rw (h, wordsAfter, e)

@@ -9,9 +9,8 @@ use Rattle.lists.specs.Lists.{All}
 use Rattle.expression.specs.declared.Checked.the-variants as checked
 use Rattle.expression.specs.declared.Effect.{Effect}
 use Rattle.expression.specs.declared.Effect.the-variants.{Push, Unite, Change, Pass}
-use Rattle.expression.specs.Limits.{workspaceNeed}
 use Rattle.expression.specs.Effects.{operandsBy, depthBy}
-use Rattle.expression.specs.Checks.{Request, check}
+use Rattle.expression.specs.Checks.{Request, check, needOf}
 use Rattle.tables.specs.Definitions.{Pair}
 use Rattle.rows.specs.Parts.{zeros}
 use Rattle.workspace.specs.Workspace.{workspaceOf, Sound, countsOf}
@@ -22,7 +21,7 @@ cleared n ws = zeros n ++ drop n ws
 
 -- 01, Outcomes: a refusal by a check changes no buffer; after any other outcome the words needed are zero and the rest is untouched
 unfoldable pub wordsAfter : ℕ → Request → List ℕ → List ℕ
-wordsAfter K a ws = elim (check K a) [ checked.Passed z ↦ cleared (workspaceNeed (a .pairLimit) (a .subsetLimit)) ws | checked.Refused n at ↦ ws ]
+wordsAfter K a ws = elim (check K a) [ checked.Passed z ↦ cleared (needOf K a) ws | checked.Refused n at ↦ ws ]
 
 -- the count of the k-th newest of t tables; 0 where there is none
 abbrev pub countBelow : ℕ → ℕ → List ℕ → ℕ

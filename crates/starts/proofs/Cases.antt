@@ -8,10 +8,9 @@ use Rattle.expression.specs.declared.Command.{Command}
 use Rattle.expression.specs.declared.Counts.{Counts}
 use Rattle.expression.specs.declared.Located.the-variants.{Before, Nowhere}
 use Rattle.expression.specs.declared.Read.the-variants.{Command as Got, Fault}
-use Rattle.expression.specs.Limits.{workspaceNeed}
 use Rattle.expression.specs.Refusals.{badRecord}
 use Rattle.expression.specs.Commands.{readAt}
-use Rattle.expression.specs.Checks.{Request, check}
+use Rattle.expression.specs.Checks.{Request, check, needOf}
 use Rattle.semantics.specs.Expressions.{act}
 use Rattle.tables.specs.Algebras.{tables}
 use Rattle.tables.specs.Definitions.{Pair, pairs}
@@ -26,7 +25,7 @@ use Rattle.starts.specs.Stepping.{Follows}
 
 module _ (K : ℕ) (a : Request) (r : Record) (ws : List ℕ) where
   abbrev need : ℕ
-  need = workspaceNeed (a .pairLimit) (a .subsetLimit)
+  need = needOf K a
 
   -- ---- a check refuses
 
@@ -89,7 +88,7 @@ pub by-all : {x y : Step} {r : Record} {q : Progress} {ws : List ℕ} → x ≡ 
 by-all e (f, g, h) = (f ∙ sym (ap (λ (y : Step). y .state) e), g ∙ sym (ap (λ (y : Step). y .answer) e), h ∙ sym (ap (λ (y : Step). y .words) e))
 
 -- start's record is the one of no tables
-pub start-follows : (K : ℕ) (a : Request) (r : Record) (ws : List ℕ) {z : Counts} {ws' : List ℕ} → check K a ≡ checked.Passed z → ws' ≡ cleared (workspaceNeed (a .pairLimit) (a .subsetLimit)) ws
+pub start-follows : (K : ℕ) (a : Request) (r : Record) (ws : List ℕ) {z : Counts} {ws' : List ℕ} → check K a ≡ checked.Passed z → ws' ≡ cleared (needOf K a) ws
     → Follows (start K a r ws) (record { place = 0; tables = 0; counts = 0 ∷ 0 ∷ 0 ∷ 0 ∷ 0 ∷ 0 ∷ 0 ∷ 0 ∷ [] }) Moved ws'
 unfolding startRecord countsOf stackCounts
 start-follows K a r ws h e = by-all (start-passed K a r ws h) (refl, refl, e)

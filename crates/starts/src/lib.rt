@@ -1,7 +1,7 @@
 // Starting a walk of one command a call, with the running record by value, and what a refused check answers. No public function has a `requires`.
 use checks::checking::check;
+use checks::frames::frame_for;
 use expression::Checked;
-use expression::limits::AREAS;
 use records::Progress;
 use records::Record;
 use records::Stepped;
@@ -37,13 +37,13 @@ pub fn start(
     ensures { λ r. ⌜ now (ws .exit) ≡ start labelCount (request (now (s .entry)) p g (length (now (ws .entry))) «assumed_true» «assumed_false») state (now (ws .entry)) .words ⌝ }
 {
     let r = check(s, p, g, ws.len(), assumed_true, assumed_false);
-    let Checked::Passed(_) = r else {
+    let Checked::Passed(n) = r else {
         return Stepped {
             state,
             progress: refusal(r),
         };
     };
-    stacks::clear_need(ws, AREAS * (p as usize * (g as usize + 2)));
+    stacks::clear_need(ws, frame_for(n.deepest, p, g).need);
     Stepped {
         state: Record {
             place: 0,

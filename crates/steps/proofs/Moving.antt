@@ -6,8 +6,8 @@ use native.Mathlib.Omega.{arith}
 use lib.ListN.{length, drop}
 use Rattle.labels.specs.Labels.{labelCount}
 use Rattle.expression.specs.declared.Command.{Command}
-use Rattle.expression.specs.Limits.{depthLimit, areaCount}
-use Rattle.expression.specs.Checks.{Request}
+use Rattle.expression.specs.Limits.{depthLimit, areasFor}
+use Rattle.expression.specs.Checks.{Request, depthOf}
 use Rattle.semantics.specs.Expressions.{act}
 use Rattle.semantics.specs.AnswerSets.{byMasks}
 use Rattle.tables.specs.Algebras.{tables}
@@ -53,7 +53,7 @@ module _ (a : Request) (n : ℕ) (c : Command) (ts : List (List Pair)) where
   p = a .pairLimit
 
   abbrev d : ℕ
-  d = areaCount
+  d = areasFor (depthOf labelCount (a .bytes))
 
   module _ {beyond : List ℕ} {k : ℕ} {ws counts ws' vals' counts' : List ℕ} (h : Advanced Nothing d w p made beyond k ws counts ws' vals' counts') where
     same-fault : pairsFault p (a .subsetLimit) (newest meant) ≡ faultOf p k

@@ -2,13 +2,13 @@
 use advances::advance_here;
 use advances::fault_of;
 use checks::checking::check;
+use checks::frames::frame_for;
 use commands::counting::counted;
 use entries::Carry;
 use expression::Checked;
 use expression::Counts;
 use expression::Located;
 use expression::Read;
-use expression::limits::AREAS;
 use expression::refusals::BAD_RECORD;
 use leaves::atom_at;
 use reader::read_next;
@@ -22,23 +22,25 @@ ghost use lib.ListN.{length};
 ghost use Rattle.labels.specs.Labels.{labelCount};
 ghost use Rattle.expression.specs.declared.Checked.the-variants.{Passed};
 ghost use Rattle.expression.specs.declared.Located.the-variants.{Before};
-ghost use Rattle.expression.specs.Checks.{check};
+ghost use Rattle.expression.specs.Limits.{areasFor};
+ghost use Rattle.expression.specs.Checks.{check, depthOf};
 ghost use Rattle.checks.specs.Requests.{request};
 ghost use Rattle.records.specs.Steps.{formedAt, command, step};
 ghost use Rattle.starts.specs.Stepping.{Follows};
 
-// The command at the record's place, where n counts what stands before it; at the end there is none.
+// The command at the record's place, where n counts what stands before it; at the end there is none. So many areas hold all the words needed.
 fn command(
     state: Record,
     ws: &mut [u32],
     s: &[u8],
     n: Counts,
+    areas: usize,
     p: u64,
     g: u64,
     assumed_true: u64,
     assumed_false: u64,
 ) -> Stepped
-    requires { ⌜ ((z : Counts) × (check labelCount (request (now s) p g (length (now ws)) «assumed_true» «assumed_false») ≡ Passed z)) ⌝ }
+    requires { ⌜ ((z : Counts) × (check labelCount (request (now s) p g (length (now ws)) «assumed_true» «assumed_false») ≡ Passed z) × (areas ≡ areasFor (depthOf labelCount (now s)))) ⌝ }
     requires { ⌜ formedAt labelCount (request (now s) p g (length (now ws)) «assumed_true» «assumed_false») state (now ws) ≡ Before n ⌝ }
     ensures { λ r. ⌜ Follows (command labelCount (request (now (s .entry)) p g (length (now (ws .entry))) «assumed_true» «assumed_false») n state (now (ws .entry))) (r .state) (r .progress) (now (ws .exit)) ⌝ }
 {
@@ -55,7 +57,7 @@ fn command(
     let k = advance_here(
         ws,
         &mut counts,
-        AREAS,
+        areas,
         g as usize + 2,
         limit,
         state.tables,
@@ -93,18 +95,19 @@ pub fn advance(
     ensures { λ r. ⌜ now (ws .exit) ≡ step labelCount (request (now (s .entry)) p g (length (now (ws .entry))) «assumed_true» «assumed_false») state (now (ws .entry)) .words ⌝ }
 {
     let r = check(s, p, g, ws.len(), assumed_true, assumed_false);
-    let Checked::Passed(_) = r else {
+    let Checked::Passed(z) = r else {
         return Stepped {
             state,
             progress: refusal(r),
         };
     };
-    let f = formed_at(state, ws, s, p, g);
+    let areas = frame_for(z.deepest, p, g).areas;
+    let f = formed_at(state, ws, s, areas, p, g);
     let Located::Before(n) = f else {
         return Stepped {
             state,
             progress: Progress::Refused(BAD_RECORD, state.place),
         };
     };
-    command(state, ws, s, n, p, g, assumed_true, assumed_false)
+    command(state, ws, s, n, areas, p, g, assumed_true, assumed_false)
 }

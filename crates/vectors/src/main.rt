@@ -4,10 +4,13 @@
 ghost use Prim.Native.Nat.{_≤_};
 use calls::grounded;
 use expression::Outcome;
+use generator::ROOM;
 use generator::drawn;
+use generator::lent;
 use generator::limit;
 use generator::next_seed;
 use generator::pins;
+use generator::room;
 use generator::sheet;
 use libc::STDOUT_FILENO;
 use oracle::Answer;
@@ -16,7 +19,7 @@ use oracle::REFUSED;
 use oracle::YES;
 use oracle::answered;
 use oracle::answering::answer;
-use oracle::checking::workspace_need;
+use oracle::checking::need_of;
 use oracle::is_same;
 use oracle_tables::Request;
 use outcomes::kind;
@@ -128,13 +131,13 @@ fn has_zeros(lent: &[u32], n: usize) -> bool {
 }
 
 // How many words of the workspace a call zeroes: none with 1 to 14.
-fn cleared(q: Request, a: Answer) -> usize {
+fn cleared(s: &[u8], q: Request, a: Answer) -> usize {
     if a.kind == REFUSED {
         if a.value < 15 {
             return 0;
         }
     }
-    workspace_need(q)
+    need_of(s, q)
 }
 
 // How many words of the buffer it writes: none with a refusal.
@@ -181,9 +184,6 @@ fn judged(q: Request, found: Answer, expected: Answer) -> u64 {
 
 // ---- trials; the words lent are made for each, marked
 
-// Enough for both limits of 32, and for one of 64 beside one of 32; not for both of 64.
-const ROOM: usize = 20000;
-
 // Enough for most reports, not for all.
 const BUFFER_ROOM: usize = 64;
 
@@ -196,8 +196,9 @@ fn compared(
     ws: &mut [u32],
     out: &mut [u32],
 ) -> u64 {
-    let found = engine_answer(s, q, ws, out);
-    if !has_zeros(ws, cleared(q, found)) {
+    let n = lent(q.room, ws.len());
+    let found = engine_answer(s, q, &mut ws[..n], out);
+    if !has_zeros(ws, cleared(s, q, found)) {
         return WORKSPACE;
     }
     if !is_left(out, words, written(found, q)) {
@@ -221,16 +222,23 @@ fn try_request(s: &[u8], q: Request) -> u64 {
     try_lent(s, q, &words, expected)
 }
 
-// ---- the sheets to try of 01 that are not starred, and the answers that Item 4 of 02 names
+// ---- the sheets to try of 01 that are not starred, and the answers that Items 4 and 8 of 02 name
 
 // 1 where both refuse as listed.
 fn listed(s: &[u8], pins_in: u64, pins_out: u64, number: u64, place: usize) -> u64
     ensures { λ r. ⌜ r ≤ 1 ⌝ }
 {
+    roomed(s, ROOM as u64, pins_in, pins_out, number, place)
+}
+
+// 1 where both do so in a room.
+fn roomed(s: &[u8], room: u64, pins_in: u64, pins_out: u64, number: u64, place: usize) -> u64
+    ensures { λ r. ⌜ r ≤ 1 ⌝ }
+{
     let q = Request {
         pair_limit: 32,
         subset_limit: 32,
-        room: ROOM as u64,
+        room,
         assumed_true: pins_in,
         assumed_false: pins_out,
         is_plain: false,
@@ -265,6 +273,17 @@ fn try_clashes() {
     let d = listed(five, 0x11, 0x10, 4, 0);
     print_number(a + b + c + d);
     io::write_all(STDOUT_FILENO, b"of 4 clashes\n");
+}
+
+// Three copies that are parts at once need four areas of 1088 words: a word less comes before 13, and behind 5 and 12; with it all is read.
+fn try_rooms() {
+    let three = b"\x11\x00\x11\x00\x11\x00\x21\x21";
+    let a = roomed(three, 4351, 8, 8, 3, 0);
+    let b = roomed(b"\x11\x00\x99", 0, 8, 8, 5, 2);
+    let c = roomed(b"\x11\x00\x11\x00", 0, 8, 8, 12, 4);
+    let d = roomed(three, 4352, 1, 1, 4, 0);
+    print_number(a + b + c + d);
+    io::write_all(STDOUT_FILENO, b"of 4 rooms\n");
 }
 
 // ---- refusals that the random sheets are too small for
@@ -349,7 +368,9 @@ fn try_seed(seed: u64) -> u64 {
     let mut bytes = [0u8; 128];
     let more = next_seed(seed / 5);
     let n = sheet(drawn(more), seed, &mut bytes);
-    try_request(&bytes[..n], request(more))
+    let mut q = request(more);
+    q.room = room(drawn(next_seed(more / 7)), need_of(&bytes[..n], q));
+    try_request(&bytes[..n], q)
 }
 
 // Up to the first disagreement, which is printed: its seed and its kind.
@@ -379,6 +400,7 @@ fn main() {
     let mut counts = [0u64; 64];
     try_listed();
     try_clashes();
+    try_rooms();
     try_large();
     try_seeds(TRIALS, &mut counts);
     print_all(&counts);

@@ -1,5 +1,5 @@
 -- The verdict of a record that has come to the end: its one table is the first of the workspace. Assumes nothing.
-use mathlib.Core.Path.{_≡_, sym, ap, _∙_}
+use mathlib.Core.Path.{_≡_, refl, sym, ap, _∙_}
 use mathlib.Core.Bool.{Bool, true, false, cond}
 use mathlib.Core.List.{List, [], map}
 use Prim.Native.Nat.{ℕ, _+_, _*_, _≤_}
@@ -10,8 +10,8 @@ use Rattle.expression.specs.declared.Counts.{Counts}
 use Rattle.expression.specs.declared.Checked.the-variants.{Passed}
 use Rattle.expression.specs.declared.Located.the-variants.{Before}
 use Rattle.expression.specs.declared.Outcome.the-variants.{Yes, No}
-use Rattle.expression.specs.Limits.{depthLimit, rowWords, areaCount}
-use Rattle.expression.specs.Checks.{Request, check}
+use Rattle.expression.specs.Limits.{depthLimit, rowWords, areasFor}
+use Rattle.expression.specs.Checks.{Request, check, depthOf, needOf}
 use Rattle.expression.proofs.Accepted.{check-accepted}
 use Rattle.expression.proofs.Remaining.{remains-end}
 use Rattle.tables.specs.Definitions.{accepting, groundedAccepts}
@@ -62,8 +62,8 @@ module _ (a : Request) (r : Record) (ws : List ℕ) {z n : Counts} (passed : che
   pub first-within : 0 + p * w ≤ length ws
   first-within = omega (arith, long a r ws passed formed room eight)
 
-  standing : Stands Nothing areaCount w p us (drop (areaCount * (p * w)) ws) ws [] (r .counts)
-  standing = stands a r ws passed formed room eight
+  standing : Stands Nothing (areasFor (depthOf labelCount (a .bytes))) w p us (drop (needOf labelCount a) ws) ws [] (r .counts)
+  standing = stands a r ws passed formed room eight refl
 
   pub first-rows : Rows w p first (part 0 (p * w) ws)
   first-rows = last-rows standing (r .tables) (bare-many a r ws passed formed room eight) one first (only-count (r .tables) (r .counts) one)

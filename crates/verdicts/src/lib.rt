@@ -2,6 +2,7 @@
 use answers::Found;
 use answers::least_accepting;
 use checks::checking::check;
+use checks::frames::frame_for;
 use entries::Carry;
 use expression::Checked;
 use expression::Located;
@@ -50,10 +51,11 @@ pub fn verdict(
     ensures { λ r. ⌜ r ≡ verdict labelCount (request (now (s .entry)) p g (length (now (ws .entry))) «assumed_true» «assumed_false») state (now (ws .entry)) ⌝ }
 {
     let r = check(s, p, g, ws.len(), assumed_true, assumed_false);
-    let Checked::Passed(_) = r else {
+    let Checked::Passed(z) = r else {
         return checks::outcomes::refusal(r);
     };
-    let f = formed_at(state, ws, s, p, g);
+    let areas = frame_for(z.deepest, p, g).areas;
+    let f = formed_at(state, ws, s, areas, p, g);
     let Located::Before(_) = f else {
         return Outcome::Refused(BAD_RECORD, state.place);
     };

@@ -4,10 +4,13 @@
 ghost use Prim.Native.Nat.{_≤_};
 use expression::Outcome;
 use expression::refusals::BAD_RECORD;
+use generator::ROOM;
 use generator::drawn;
+use generator::lent;
 use generator::limit;
 use generator::next_seed;
 use generator::pins;
+use generator::room;
 use generator::sheet;
 use libc::STDOUT_FILENO;
 use oracle::Answer;
@@ -16,8 +19,9 @@ use oracle::answered;
 use oracle::answering::answer;
 use oracle::answering::table_answer;
 use oracle::checking::LARGE;
+use oracle::checking::area;
 use oracle::checking::check;
-use oracle::checking::workspace_need;
+use oracle::checking::need_of;
 use oracle::is_same;
 use oracle_tables::Request;
 use oracle_tables::tabulating::write_table;
@@ -36,9 +40,6 @@ use tallies::print_disagreement;
 use verdicts::verdict;
 
 // ---- what should be there: the record, and a model of the workspace, whose places count modulo their number
-
-// Enough for both limits of 32, and for one of 64 beside one of 32; not for both of 64.
-const ROOM: usize = 20000;
 
 // What stands in lent words before a walk.
 const MARK: u32 = 0xa5a5a5a5;
@@ -91,9 +92,15 @@ fn put_rows(model: &mut [u32; 20000], from: usize, width: usize, words: &[u32; 1
 }
 
 // The newest of so many tables, as a report has it; no word behind it is in use.
-fn put_table(model: &mut [u32; 20000], q: Request, depth: u64, words: &[u32; 16512], entries: u64) {
-    let need = workspace_need(q);
-    let from = table_start(need / 9, newest(depth));
+fn put_table(
+    model: &mut [u32; 20000],
+    need: usize,
+    q: Request,
+    depth: u64,
+    words: &[u32; 16512],
+    entries: u64,
+) {
+    let from = table_start(area(q), newest(depth));
     clear(model, from, need);
     put_rows(
         model,
@@ -167,10 +174,10 @@ fn is_record(r: Record, expected: Record) -> bool {
     has_counts(&a, &b)
 }
 
-fn has_words(ws: &[u32; 20000], model: &[u32; 20000]) -> bool {
+fn has_words(ws: &[u32], model: &[u32; 20000]) -> bool {
     let mut k: usize = 0;
-    while k < 20000 {
-        if ws[k] != model[k] {
+    while k < ws.len() {
+        if ws[k] != model[k % 20000] {
             return false;
         }
         k += 1;
@@ -191,7 +198,7 @@ fn told(x: Progress) -> Answer {
     }
 }
 
-fn is_stepped(x: Stepped, r: Record, a: Answer, ws: &[u32; 20000], model: &[u32; 20000]) -> bool {
+fn is_stepped(x: Stepped, r: Record, a: Answer, ws: &[u32], model: &[u32; 20000]) -> bool {
     let state = x.state;
     let progress = x.progress;
     if !is_same(told(progress), a) {
@@ -211,12 +218,13 @@ fn starts(
     given: Record,
     r: Record,
     a: Answer,
-    ws: &mut [u32; 20000],
+    ws: &mut [u32],
     model: &[u32; 20000],
 ) -> bool {
+    let n = lent(q.room, ws.len());
     let x = start(
         given,
-        ws,
+        &mut ws[..n],
         s,
         q.pair_limit,
         q.subset_limit,
@@ -232,12 +240,13 @@ fn steps(
     given: Record,
     r: Record,
     a: Answer,
-    ws: &mut [u32; 20000],
+    ws: &mut [u32],
     model: &[u32; 20000],
 ) -> bool {
+    let n = lent(q.room, ws.len());
     let x = steps::advance(
         given,
-        ws,
+        &mut ws[..n],
         s,
         q.pair_limit,
         q.subset_limit,
@@ -251,10 +260,11 @@ fn outcome(o: Outcome) -> Answer {
     answered(kind(o), value(o), place(o) as usize)
 }
 
-fn concludes(s: &[u8], q: Request, r: Record, a: Answer, ws: &[u32; 20000]) -> bool {
+fn concludes(s: &[u8], q: Request, r: Record, a: Answer, ws: &[u32]) -> bool {
+    let n = lent(q.room, ws.len());
     let o = verdict(
         r,
-        ws,
+        &ws[..n],
         s,
         q.pair_limit,
         q.subset_limit,
@@ -349,13 +359,13 @@ fn refuses_word(
     is_refused
 }
 
-// A needed word; there are 27 at least.
+// A needed word; there are six at least.
 fn needed(x: u64, need: usize) -> usize {
     let k = (x % 20000) as usize;
     if k < need {
         return k;
     }
-    k % 27
+    k % 6
 }
 
 // One of the last three, which are scratch.
@@ -376,7 +386,7 @@ fn refuses_words(
     ws: &mut [u32; 20000],
     model: &mut [u32; 20000],
 ) -> bool {
-    let need = workspace_need(q);
+    let need = need_of(s, q);
     if !refuses_word(s, q, r, needed(x, need), 16777216, ws, model) {
         return false;
     }
@@ -446,7 +456,7 @@ fn step_to(
             said: said(stayed, a.value, STEP),
         };
     }
-    put_table(model, q, p.depth, words, a.value);
+    put_table(model, need_of(s, q), q, p.depth, words, a.value);
     let next = moved(r, p, a.value);
     let stepped = steps(s, q, r, next, answered(MOVED, 0, 0), ws, model);
     Turned {
@@ -582,7 +592,7 @@ fn try_lent(
     if p.fault != 0 {
         return refuses(s, q, answered(REFUSED, p.fault, p.place), ws, model);
     }
-    clear(model, 0, workspace_need(q));
+    clear(model, 0, need_of(s, q));
     if !starts(
         s,
         q,
@@ -626,7 +636,9 @@ fn try_seed(seed: u64) -> u64 {
     let mut bytes = [0u8; 128];
     let more = next_seed(seed / 5);
     let n = sheet(drawn(more), seed, &mut bytes);
-    try_request(&bytes[..n], request(more), seed)
+    let mut q = request(more);
+    q.room = room(drawn(next_seed(more / 7)), need_of(&bytes[..n], q));
+    try_request(&bytes[..n], q, seed)
 }
 
 // Up to the first disagreement, which is printed: its seed and its kind.

@@ -1,18 +1,21 @@
 -- `calls::grounded`: a check refuses, or the walk decides.
-use mathlib.Core.Path.{_≡_, sym, ap, _∙_}
+use mathlib.Core.Path.{_≡_, sym, ap, _∙_, subst}
 use lib.ListN.{length}
 use Rattle.labels.specs.Labels.{labelCount}
 use Rattle.expression.specs.declared.Counts.{Counts}
 use Rattle.expression.specs.declared.Checked.the-variants.{Passed}
 use Rattle.expression.specs.Checks.{Request, check}
-use Rattle.expression.proofs.Accepted.{check-bytes}
 use Rattle.checks.specs.Requests.{request, refusalOutcome}
 use Rattle.decisions.proofs.Outcomes.{grounded-right}
 use Rattle.stacks.proofs.After.{words-stay, words-cleared}
-use Rattle.checks.proofs.Passing.{accepted, area-small}
+use Rattle.checks.specs.declared.frames.Frame.{Frame}
+use Rattle.checks.specs.Frames.{frameOf}
+use Rattle.semantics.specs.AnswerSets.{byMasks}
+use Rattle.entries.specs.declared.Carry.the-variants.{First}
+use Rattle.leaves.specs.declared.Tables.the-variants.{Pairs}
+use Rattle.deciding.specs.Deciding.{Decides}
+use Rattle.checks.proofs.Passing.{accepted, framed, frame-need, frame-limits, frame-deep, frame-fits}
 use Rattle.calls.proofs.Outcomes.{refused-grounded, grounded-decided}
-use borrow.Author.Needs.{needs}
-use native.Mathlib.Omega.{arith}
 use borrow.Author.Needs.{needs}
 use Rattle.calls.proofs.grounded.Statement.{statement}
 use Rattle.calls.proofs.grounded.Tie as tie
@@ -54,34 +57,45 @@ returns c =
     let r = c .refusal .ensures ∙ ap refusalOutcome (g .1) ∙ refused-grounded (asked s) h in
     (r, (grounded-right labelCount (asked s) r, words-stay labelCount (asked s) (s .args .ws .now) h))
 
-add-w : tie.Need-add-w
-add-w c = let e = c .before in omega (arith, accepted (asked (start e)) (passed e) .subsets .1)
+frame-for-requires : tie.Need-frame-for-requires
+frame-for-requires c κs = let e = c .before in framed (asked (start e)) (passed e)
 
-mul-need : tie.Need-mul-need
-mul-need c = let e = c .before in omega (arith, area-small (asked (start e)) (passed e))
+-- its frame
+module _ (v : tie.After-frame-for) where
+  abbrev taken : tie.After-r
+  taken = v .before .before
 
-mul-need-2 : tie.Need-mul-need-2
-mul-need-2 c = let e = c .before in omega (arith, area-small (asked (start e)) (passed e))
+  abbrev made : Frame
+  made = v .frame-for .result
+
+  made-is : made ≡ frameOf (counts taken .deepest) (start taken .args .p) (start taken .args .g)
+  made-is = v .frame-for .ensures
 
 decide-pairs-requires : tie.Need-decide-pairs-requires
 decide-pairs-requires c κs =
-    let e = c .before .before in
-    let A = accepted (asked (start e)) (passed e) in
-    ((omega (arith, A .subsets .0), omega (arith, A .subsets .1), A .pairs .0, A .pairs .1), ((counts e, check-bytes labelCount (asked (start e)) (counts e) (passed e), omega (arith, A .joined .limited .deepest)), A .room, omega arith, omega arith))
+    let v = c .before in
+    let a = asked (start (taken v)) in
+    let p = passed (taken v) in
+    let fits = frame-fits a p (made v) (made-is v) in
+    (frame-limits a p (made v) (made-is v), (frame-deep a p (made v) (made-is v), fits .0, fits .1, fits .2))
 
 shown-requires : tie.Need-shown-requires
 shown-requires c κs =
-    let e = c .before .before .before .before .before in accepted (asked (start e)) (passed e) .joined .limited .atoms
+    let e = taken (c .before .before .before .before) in accepted (asked (start e)) (passed e) .joined .limited .atoms
 
 same-length : tie.Need-same-length
 same-length c = search needs
 
 returns-2 : tie.Need-returns-2
 returns-2 c =
-    let e = c .before .before .before .before .before .before in
-    let d = c .before .before .before .decide-pairs in
-    let r = c .shown .ensures ∙ grounded-decided (asked (start e)) (passed e) (d .result) (d .ensures .0) in
-    (r, (grounded-right labelCount (asked (start e)) r, d .ensures .1 ∙ words-cleared labelCount (asked (start e)) (start e .args .ws .now) (passed e)))
+    let u = c .before .before .before in
+    let v = u .before .before in
+    let e = taken v in
+    let a = asked (start e) in
+    let o = u .decide-pairs .result in
+    let decided = subst (λ (f : Frame). Decides Pairs First (byMasks (a .assumedTrue) (a .assumedFalse)) (f .width) (f .limit) (a .bytes) o) (made-is v) (u .decide-pairs .ensures .0) in
+    let r = c .shown .ensures ∙ grounded-decided a (passed e) o decided in
+    (r, (grounded-right labelCount a r, u .decide-pairs .ensures .1 ∙ words-cleared labelCount a (start e .args .ws .now) (passed e) (frame-need a (passed e) (made v) (made-is v))))
 
 pub grounded-spec : {M : Type 1} → statement M
 grounded-spec =
@@ -92,9 +106,7 @@ grounded-spec =
     enum-told
     refusal-requires
     returns
-    add-w
-    mul-need
-    mul-need-2
+    frame-for-requires
     decide-pairs-requires
     shown-requires
     same-length

@@ -6,13 +6,14 @@ use lib.ListN.{length}
 use borrow.Author.Tests.{not-true, not-false}
 use Rattle.labels.specs.Labels.{labelCount}
 use Rattle.expression.specs.declared.Located.the-variants.{Before}
-use Rattle.expression.specs.Checks.{Request}
+use Rattle.expression.specs.Checks.{Request, depthOf}
 use Rattle.expression.specs.Limits.{depthLimit}
 use Rattle.expression.specs.Places.{locate}
 use Rattle.checks.specs.Requests.{request}
+use Rattle.expression.proofs.Accepted.{Accepted}
 use Rattle.checks.proofs.Passing.{accepted}
 use Rattle.record_tests.proofs.Tests.{unlocated, miscounted, malformed, well-formed}
-use Rattle.record_tests.proofs.Reached.{located-here}
+use Rattle.record_tests.proofs.Reached.{Here, located-here, here-within}
 use Rattle.record_tests.proofs.Lengths.{eight}
 use borrow.Author.Needs.{needs}
 use Rattle.record_tests.proofs.formed_at.Statement.{statement}
@@ -29,11 +30,17 @@ module _ (e : tie.After-r) where
   located : locate labelCount (origin .args .s .now) (origin .args .t1 .place) ≡ Before (e .r .given .0 .0)
   located = sym (e .before .before .locate .ensures) ∙ e .r .given .1
 
+  passed : Accepted labelCount (asked origin (origin .pre .0) (origin .pre .1)) (origin .pre .2)
+  passed = accepted (asked origin (origin .pre .0) (origin .pre .1)) (origin .pre .3)
+
+  here : Here labelCount (origin .args .s .now) (origin .pre .2) (origin .args .t1 .place) (e .r .given .0 .0)
+  here = located-here labelCount (origin .args .s .now) (origin .pre .2) (origin .args .t1 .place) (e .r .given .0 .0) (passed .joined) located
+
   shallow : e .r .given .0 .0 .depth ≤ depthLimit
-  shallow =
-      let s = origin in
-      let A = accepted (asked s (s .pre .0) (s .pre .1)) (s .pre .3) in
-      located-here labelCount (s .args .s .now) (s .pre .2) (s .args .t1 .place) (e .r .given .0 .0) (A .joined) located .1 .1 .depth
+  shallow = here .1 .1 .depth
+
+  depth-within : e .r .given .0 .0 .depth ≤ depthOf labelCount (origin .args .s .now)
+  depth-within = here-within labelCount (origin .args .s .now) (origin .pre .2) here (passed .deepest)
 
 locate-requires : tie.Need-locate-requires
 locate-requires c κs = search needs
@@ -62,24 +69,25 @@ are-found-requires : tie.Need-are-found-requires
 are-found-requires c κs =
     let e = c .before .before .before .before .before .before in
     let s = origin e in
-    let A = accepted (asked s (s .pre .0) (s .pre .1)) (s .pre .3) in
+    let A = passed e in
     let k = eight (s .args .t1) _ (s .good .0) in
     let t = c .before .before .before .if1 .left in
-    (omega arith, omega (arith, A .subsets .1), A .pairs .1, omega (arith, k, t, shallow e), omega (arith, t, shallow e), omega arith, A .room)
+    let deep = depth-within e in
+    (omega arith, omega (arith, A .subsets .1), A .pairs .1, omega (arith, k, t, shallow e), rw (s .pre .4) (omega (arith, t, deep)), rw (s .pre .4) (omega (arith, A .deepest, A .joined .limited .deepest)), rw (s .pre .4) (A .room))
 
 returns-3 : tie.Need-returns-3
 returns-3 c =
     let v = c .before in
     let e = v .before .before .before .before .before .before .before in
     let s = origin e in
-    λ i o. sym (malformed labelCount (asked s i o) (s .args .t1) (s .args .ws .now) (located e) (v .before .before .before .before .if1 .left) (v .are-found .result) (v .are-found .ensures) (not-true (v .are-found .result) (c .if2 .taken)))
+    λ i o. sym (malformed labelCount (asked s i o) (s .args .t1) (s .args .ws .now) (located e) (v .before .before .before .before .if1 .left) (v .are-found .result) (s .pre .4) (v .are-found .ensures) (not-true (v .are-found .result) (c .if2 .taken)))
 
 returns-4 : tie.Need-returns-4
 returns-4 c =
     let v = c .before in
     let e = v .before .before .before .before .before .before .before in
     let s = origin e in
-    λ i o. sym (well-formed labelCount (asked s i o) (s .args .t1) (s .args .ws .now) (located e) (v .before .before .before .before .if1 .left) (v .are-found .result) (v .are-found .ensures) (not-false (v .are-found .result) (c .if2 .left)))
+    λ i o. sym (well-formed labelCount (asked s i o) (s .args .t1) (s .args .ws .now) (located e) (v .before .before .before .before .if1 .left) (v .are-found .result) (s .pre .4) (v .are-found .ensures) (not-false (v .are-found .result) (c .if2 .left)))
 
 pub formed-at-spec : {M : Type 1} → statement M
 formed-at-spec =

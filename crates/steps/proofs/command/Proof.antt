@@ -1,5 +1,5 @@
 -- `steps::command`: there is none, or it acts and is refused or moves.
-use mathlib.Core.Path.{_≡_, refl, sym, _∙_}
+use mathlib.Core.Path.{_≡_, refl, sym, _∙_, subst}
 use mathlib.Core.List.{[], map}
 use Prim.Native.Nat.{ℕ, _+_}
 use native.Mathlib.Omega.{arith}
@@ -7,8 +7,8 @@ use lib.ListN.{length, drop}
 use Rattle.labels.specs.Labels.{labelCount}
 use Rattle.expression.specs.declared.Command.{Command}
 use Rattle.expression.specs.declared.Read.the-variants.{Command as Got}
-use Rattle.expression.specs.Limits.{workspaceNeed, areaCount}
-use Rattle.expression.specs.Checks.{Request}
+use Rattle.expression.specs.Limits.{areasFor}
+use Rattle.expression.specs.Checks.{Request, depthOf, needOf}
 use Rattle.expression.specs.Commands.{readAt}
 use Rattle.entries.specs.declared.Carry.the-variants.{Nothing}
 use Rattle.advances.specs.Advances.{Stands, Advanced}
@@ -29,8 +29,8 @@ asked s = request (s .args .s .now) (s .args .p) (s .args .g) (length (s .args .
 
 module _ (s : tie.Start) where
   -- the tables found stand
-  standing : Stands Nothing areaCount (s .args .g + 2) (s .args .p) (map bare (found labelCount (asked s) (s .args .state) (s .args .ws .now))) (drop (workspaceNeed (s .args .p) (s .args .g)) (s .args .ws .now)) (s .args .ws .now) [] (s .args .state .counts)
-  standing = stands (asked s) (s .args .state) (s .args .ws .now) (s .pre .0 .1) (s .pre .1) refl (eight (s .args .state) _ (s .good .0))
+  standing : Stands Nothing (s .args .areas) (s .args .g + 2) (s .args .p) (map bare (found labelCount (asked s) (s .args .state) (s .args .ws .now))) (drop (needOf labelCount (asked s)) (s .args .ws .now)) (s .args .ws .now) [] (s .args .state .counts)
+  standing = stands (asked s) (s .args .state) (s .args .ws .now) (s .pre .0 .1) (s .pre .1) refl (eight (s .args .state) _ (s .good .0)) (s .pre .0 .2)
 
   as-many : length (map bare (found labelCount (asked s) (s .args .state) (s .args .ws .now))) ≡ s .args .state .tables
   as-many = bare-many (asked s) (s .args .state) (s .args .ws .now) (s .pre .0 .1) (s .pre .1) refl (eight (s .args .state) _ (s .good .0))
@@ -60,8 +60,11 @@ module _ (v : tie.After-advance-here) where
   abbrev s : tie.Start
   s = origin given
 
-  acted : Advanced Nothing areaCount (s .args .g + 2) (s .args .p) (made (asked s) (s .args .n .atoms) (action given) (found labelCount (asked s) (s .args .state) (s .args .ws .now))) (drop (workspaceNeed (s .args .p) (s .args .g)) (s .args .ws .now)) (v .advance-here .result) (s .args .ws .now) (s .args .state .counts) (v .advance-here .last .0) [] (v .advance-here .last .1 .0)
-  acted = v .advance-here .ensures _ _ (resolved .atom-at .ensures) _ _ (standing s) (as-many s)
+  abbrev Acted : ℕ → Type 0
+  Acted d = Advanced Nothing d (s .args .g + 2) (s .args .p) (made (asked s) (s .args .n .atoms) (action given) (found labelCount (asked s) (s .args .state) (s .args .ws .now))) (drop (needOf labelCount (asked s)) (s .args .ws .now)) (v .advance-here .result) (s .args .ws .now) (s .args .state .counts) (v .advance-here .last .0) [] (v .advance-here .last .1 .0)
+
+  acted : Acted (areasFor (depthOf labelCount (s .args .s .now)))
+  acted = subst Acted (s .pre .0 .2) (v .advance-here .ensures _ _ (resolved .atom-at .ensures) _ _ (standing s) (as-many s))
 
   commands : command labelCount (asked s) (s .args .n) (s .args .state) (s .args .ws .now) ≡ moveTo labelCount (asked s) (next given) (meant (asked s) (s .args .n .atoms) (action given) (found labelCount (asked s) (s .args .state) (s .args .ws .now))) (s .args .state) (s .args .ws .now)
   commands = command-read labelCount (asked s) (s .args .state) (s .args .ws .now) (s .args .n) (read given)
@@ -97,7 +100,7 @@ advance-here-requires c κs =
     let s = origin e in
     let A = accepted (asked s) (s .pre .0 .1) in
     let k = eight (s .args .state) _ (s .good .0) in
-    ((omega (arith, A .subsets .0), omega (arith, A .subsets .1), A .pairs .0, A .pairs .1), (suits (asked s) (s .args .state) (s .args .ws .now) (s .pre .0 .1) (s .pre .1) refl k (action e) (next e) (read e), meets (asked s) (s .args .state) (s .args .ws .now) (s .pre .0 .1) (s .pre .1) refl k (action e) (next e) (read e), (_, _, x .atom-at .ensures), (_, _, standing s, as-many s)))
+    ((omega (arith, A .subsets .0), omega (arith, A .subsets .1), A .pairs .0, A .pairs .1), (suits (asked s) (s .args .state) (s .args .ws .now) (s .pre .0 .1) (s .pre .1) refl k (action e) (next e) (read e), meets (asked s) (s .args .state) (s .args .ws .now) (s .pre .0 .1) (s .pre .1) refl k (action e) (next e) (read e) (s .pre .0 .2), (_, _, x .atom-at .ensures), (_, _, standing s, as-many s)))
 
 fault-of-requires : tie.Need-fault-of-requires
 fault-of-requires c κs =
