@@ -50,7 +50,7 @@ static int by_call(grounded *call, const instance *x, uint64_t *plan)
 {
     uint64_t answer[3];
     call(x->sheet, x->sheet_len, x->plan_limit, x->subset_limit, x->pins_in, x->pins_out, workspace,
-         NUNTENNIS_WORKSPACE_WORDS(x->plan_limit, x->subset_limit), answer, 3);
+         NUNTENNIS_MOST_WORKSPACE_WORDS(x->plan_limit, x->subset_limit), answer, 3);
     *plan = answer[1];
     return answer[0] == 2 ? -(int)answer[1] : (int)answer[0];
 }
@@ -275,8 +275,8 @@ int main(int arguments, char **argument)
     const char *option = options ? argument[1] : "", *name = arguments > 1 + options ? argument[1 + options] : "";
     size_t n = all_families(x);
     n += long_families(x + n);
-    workspace = calloc(NUNTENNIS_WORKSPACE_WORDS(1024, 1024), sizeof *workspace);
-    memset(workspace, 1, NUNTENNIS_WORKSPACE_WORDS(1024, 1024) * sizeof *workspace);
+    workspace = calloc(NUNTENNIS_MOST_WORKSPACE_WORDS(1024, 1024), sizeof *workspace);
+    memset(workspace, 1, NUNTENNIS_MOST_WORKSPACE_WORDS(1024, 1024) * sizeof *workspace);
     if (strcmp(option, "--longest") == 0) return longest_family(x), bench_once(x);
     if (strcmp(option, "--once") == 0) return bench_each_once(x, n, name);
     if (strcmp(option, "--without-clingo") != 0) clingo_begin();

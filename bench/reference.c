@@ -21,7 +21,7 @@ typedef struct {
 
 // ---- reading
 
-typedef struct { unsigned atoms, rules, depth; } counts;
+typedef struct { unsigned atoms, rules, depth, deepest; } counts;
 
 // Operands of a command byte; -1 for no command.
 static int operands_of(unsigned code)
@@ -79,9 +79,9 @@ static outcome refused(unsigned number, size_t place)
 
 static const outcome passed = {NO, 0, 0};
 
-static size_t workspace_need(const request *r)
+static size_t workspace_need(const request *r, const counts *n)
 {
-    return (size_t)AREAS * r->plan_limit * (r->subset_limit + 2);
+    return ((size_t)n->deepest + 1) * r->plan_limit * (r->subset_limit + 2);
 }
 
 static bool is_limit(uint64_t n)
@@ -97,22 +97,22 @@ static outcome check_sheet(const request *r, size_t asked, counts *n, bool *foun
         unsigned fault = read_command(r->sheet, r->sheet_len, at, &c);
         if (fault == 0) fault = count_command(n, c.code);
         if (fault != 0) return refused(fault, at);
+        if (n->depth > n->deepest) n->deepest = n->depth;
         if (at == asked) *found = true;
     }
     return n->depth == 1 ? passed : refused(UNJOINED, r->sheet_len);
 }
 
 // Checks 1 to 13, and 14 where a report is asked.
-static outcome check(const request *r, const size_t *asked)
+static outcome check(const request *r, const size_t *asked, counts *n)
 {
     if (r->sheet_len > SHEET_BYTES) return refused(OVERLONG, 0);
     if (!is_limit(r->plan_limit) || !is_limit(r->subset_limit)) return refused(LIMITS, 0);
-    if (r->workspace_len < workspace_need(r)) return refused(CRAMPED, 0);
-    counts n = {0, 0, 0};
     bool found = false;
-    outcome o = check_sheet(r, asked ? *asked : 0, &n, &found);
+    outcome o = check_sheet(r, asked ? *asked : 0, n, &found);
     if (o.kind == REFUSED) return o;
-    if ((r->pins_in | r->pins_out) >> n.atoms) return refused(ABSENT, r->sheet_len);
+    if (r->workspace_len < workspace_need(r, n)) return refused(CRAMPED, 0);
+    if ((r->pins_in | r->pins_out) >> n->atoms) return refused(ABSENT, r->sheet_len);
     if (r->pins_in & r->pins_out) return refused(CLASH, 0);
     if (asked && !found) return refused(OFFSET, *asked);
     return passed;
@@ -121,10 +121,10 @@ static outcome check(const request *r, const size_t *asked)
 // ---- the calls
 
 // Runs the commands up to the end given: the refusal of the first that does not fit.
-static outcome walk(state *s, const request *r, size_t end, unsigned (*run)(state *, const command *))
+static outcome walk(state *s, const request *r, const counts *n, size_t end, unsigned (*run)(state *, const command *))
 {
     command c = {0};
-    tables_begin(s, r->plan_limit, r->subset_limit, r->pins_in, r->pins_out, r->workspace);
+    tables_begin(s, n->deepest, r->plan_limit, r->subset_limit, r->pins_in, r->pins_out, r->workspace);
     for (size_t at = 0; at < end; at += c.length) {
         read_command(r->sheet, r->sheet_len, at, &c);
         unsigned fault = run(s, &c);
@@ -182,9 +182,9 @@ static outcome write_triples(state *s, uint32_t *report, size_t report_len, size
     return (outcome){YES, t->count, t->count};
 }
 
-static void clear(const request *r)
+static void clear(const request *r, const counts *n)
 {
-    memset(r->workspace, 0, workspace_need(r) * sizeof *r->workspace);
+    memset(r->workspace, 0, workspace_need(r, n) * sizeof *r->workspace);
 }
 
 static uint64_t say(outcome o, uint64_t *answer)
@@ -198,11 +198,12 @@ static uint64_t say(outcome o, uint64_t *answer)
 static outcome decide(const request *r, unsigned (*run)(state *, const command *), outcome (*end)(const state *))
 {
     state s;
-    outcome o = check(r, NULL);
+    counts n = {0};
+    outcome o = check(r, NULL, &n);
     if (o.kind == REFUSED) return o;
-    o = walk(&s, r, r->sheet_len, run);
+    o = walk(&s, r, &n, r->sheet_len, run);
     if (o.kind != REFUSED) o = end(&s);
-    clear(r);
+    clear(r, &n);
     return o;
 }
 
@@ -235,11 +236,12 @@ static outcome report_on(const request *r, size_t asked, unsigned (*run)(state *
                          outcome (*write)(state *, uint32_t *, size_t, size_t), uint32_t *report, size_t report_len)
 {
     state s;
-    outcome o = check(r, &asked);
+    counts n = {0};
+    outcome o = check(r, &asked, &n);
     if (o.kind == REFUSED) return o;
-    o = walk(&s, r, asked + 1, run);
+    o = walk(&s, r, &n, asked + 1, run);
     if (o.kind != REFUSED) o = write(&s, report, report_len, asked);
-    clear(r);
+    clear(r, &n);
     return o;
 }
 

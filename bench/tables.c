@@ -3,7 +3,7 @@
 
 #include <stdlib.h>
 
-void tables_begin(state *s, size_t pair_limit, size_t subset_limit, uint64_t assumed_true, uint64_t assumed_false, uint32_t *workspace)
+void tables_begin(state *s, unsigned parts, size_t pair_limit, size_t subset_limit, uint64_t assumed_true, uint64_t assumed_false, uint32_t *workspace)
 {
     s->pair_limit = pair_limit;
     s->subset_limit = subset_limit;
@@ -11,7 +11,8 @@ void tables_begin(state *s, size_t pair_limit, size_t subset_limit, uint64_t ass
     s->assumed_true = assumed_true;
     s->assumed_false = assumed_false;
     s->atoms = s->depth = 0;
-    for (size_t t = 0; t < AREAS; t++) s->tables[t] = (table){workspace + t * pair_limit * s->width, s->first[t], 0};
+    s->parts = parts;
+    for (size_t t = 0; t <= parts; t++) s->tables[t] = (table){workspace + t * pair_limit * s->width, s->first[t], 0};
     memset(s->seen.slots, 0, sizeof s->seen.slots);
     s->seen.stamp = 0;
 }
@@ -159,7 +160,7 @@ static unsigned unite_tables(state *s, table *t, const table *a, const table *b)
 // The two newest tables become the free one.
 static unsigned unite(state *s)
 {
-    table *a = &s->tables[s->depth - 2], *b = a + 1, *t = &s->tables[AREAS - 1];
+    table *a = &s->tables[s->depth - 2], *b = a + 1, *t = &s->tables[s->parts];
     unsigned fault = unite_tables(s, t, a, b);
     if (fault) return fault;
     table made = *t;
@@ -259,7 +260,7 @@ static unsigned push_plain_atom(state *s, unsigned label)
 
 static unsigned unite_plain(state *s)
 {
-    table *a = &s->tables[s->depth - 2], *b = a + 1, *t = &s->tables[AREAS - 1];
+    table *a = &s->tables[s->depth - 2], *b = a + 1, *t = &s->tables[s->parts];
     uint32_t stamp = filter_empty(&s->seen);
     t->count = 0;
     for (size_t k = 0; k < a->count; k++)

@@ -24,14 +24,14 @@ typedef struct { uint16_t slots[4 * LIMIT]; unsigned mask; } row_index;
 typedef struct {
     size_t pair_limit, subset_limit, width;
     uint64_t assumed_true, assumed_false;
-    unsigned atoms, depth;
-    table tables[AREAS]; // the last one is free
+    unsigned atoms, depth, parts; // parts: the most there are at once
+    table tables[AREAS];          // the one behind them is free
     uint64_t first[AREAS][LIMIT];
     row_index index;
     filter seen;
 } state;
 
-void tables_begin(state *s, size_t pair_limit, size_t subset_limit, uint64_t assumed_true, uint64_t assumed_false, uint32_t *workspace);
+void tables_begin(state *s, unsigned parts, size_t pair_limit, size_t subset_limit, uint64_t assumed_true, uint64_t assumed_false, uint32_t *workspace);
 
 // One command on pair tables, or on plain ones: 0, 15 or 16. A refused command leaves the tables in use as they were.
 unsigned run_command(state *s, const command *c);

@@ -35,7 +35,7 @@ static const refusal_words refusals[] = {
     {"unknown to this host", "the header of the library says more", BYTE},
     {"overlong", "the sheet has over 4096 bytes", REQUEST},
     {"limits", "P or G is outside 1 to 1024", REQUEST},
-    {"cramped", "the workspace is too short for P and G", REQUEST},
+    {"cramped", "the workspace is too short for the sheet under P and G", REQUEST},
     {"clash", "a copy is pinned in and out", REQUEST},
     {"unknown", "there is no such command byte", BYTE},
     {"cut", "the command's operands are missing", BYTE},
@@ -171,11 +171,13 @@ static void print_help(void)
 
 // ---- from the arguments to the status
 
-// Words for the limits asked; for limits that will be refused, a few.
+// Just the words that the sheet needs under the limits asked; none where the sheet or the limits will be refused.
 static size_t words_for(const sheet_file *f)
 {
+    uint64_t answer[3];
     int is_allowed = f->plan_limit <= NUNTENNIS_LIMIT && f->subset_limit <= NUNTENNIS_LIMIT;
-    return is_allowed ? NUNTENNIS_WORKSPACE_WORDS(f->plan_limit, f->subset_limit) : 1;
+    nuntennis_depth(f->sheet, f->sheet_len, answer, 3);
+    return is_allowed && answer[0] == NUNTENNIS_YES ? NUNTENNIS_WORKSPACE_WORDS(answer[1], f->plan_limit, f->subset_limit) : 0;
 }
 
 static int answer_sheet(const sheet_file *f)

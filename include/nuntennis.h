@@ -34,7 +34,8 @@
  *     42 i j    .. into the needed set
  *     43 i j    .. into the barring set
  *
- * 11 and 12 put a new part on the stack (at most 8 at a time); a whole sheet leaves one part.
+ * 11 and 12 put a new part on the stack (at most 8 at a time); a whole sheet leaves one part. The sheet's depth (D) is the most parts that
+ * it has at any moment; most sheets need two or three.
  *
  * A plan is a set of copies. It meets a rule if some needed copy is missing, or some barring copy is present, or some head copy is
  * present. It is grounded if it meets every rule, and no smaller plan (a proper subset) meets every rule that is left once the rules
@@ -47,8 +48,8 @@
  *   plan_limit  (P)            the most pairs that a table may have, 1 to 1024
  *   subset_limit (G)           the most subsets that a pair may have, 1 to 1024
  *   pins_in, pins_out          bit c is copy c: the plan has every copy of pins_in and none of pins_out
- *   workspace, workspace_len   lent words, at least NUNTENNIS_WORKSPACE_WORDS(P, G); they may hold anything before a decision, a report or
- *                              start
+ *   workspace, workspace_len   lent words, at least NUNTENNIS_WORKSPACE_WORDS(D, P, G), where nuntennis_depth tells D; they may hold
+ *                              anything before a decision, a report or start
  *   answer, answer_len         at least three words (see ANSWERS)
  *   record                     walks: a running record, lent; before start it is initialised memory of any value, as {0}: start reads it
  *   asked                      reports: the offset in the sheet of the command asked
@@ -65,14 +66,15 @@
  *
  *   answer[0]  kind       answer[1]  value                                answer[2]  place
  *   0  no                 0                                               0
- *   1  yes                grounded: first plan, bit c is copy c; else 0   0
+ *   1  yes                grounded: first plan, bit c is copy c;          0
+ *                         depth: D; else 0
  *   1  reported           entries written                                 words written
  *   2  refused            the refusal's number                            the refusal's place
  *   3  moved              0                                               0
  *   4  ended              0                                               0
  *
- * Decisions answer 0, 1 or 2, reports 1 or 2, start 2 or 3, step 2, 3 or 4, and verdict 0, 1 or 2, where a yes shows no plan: its value
- * is 0. The plan of a grounded decision's yes is the first one (see DECISIONS). Nothing is left open.
+ * depth answers 1 or 2, decisions 0, 1 or 2, reports 1 or 2, start 2 or 3, step 2, 3 or 4, and verdict 0, 1 or 2, where a yes shows no
+ * plan: its value is 0. The plan of a grounded decision's yes is the first one (see DECISIONS). Nothing is left open.
  *
  *
  * REFUSALS
@@ -80,7 +82,7 @@
  *   No. Word           Given when                                              Place
  *    1  overlong       the sheet is over 4096 bytes                            0
  *    2  limits         P or G is outside 1 to 1024                             0
- *    3  cramped        workspace_len is under 9*P*(G+2)                        0
+ *    3  cramped        workspace_len is under (D+1)*P*(G+2)                    0
  *    4  clash          a copy of the sheet is pinned in and out                0
  *    5  unknown        no such command byte                                    offset of that command
  *    6  cut            operands are missing                                    offset of that command
@@ -99,16 +101,16 @@
  *                      of a walk (see ONE COMMAND A CALL); verdict: also
  *                      before the end
  *
- * They are tested in this order: 1 to 3; then the whole sheet is read, and the first faulty command gives the lowest of 5 to 11 that
- * applies to it; then 12, 13, 4; then 14; then the tables command by command, at each command 15 before 16, and for a report no
- * further than the command asked; then 17. plain and plain_report never give 15. start tests 1 to 13 and no more; verdict 1 to 13, then
- * 18; step 1 to 13, then 18, then its one command, 15 before 16.
+ * They are tested in this order: 1, 2; then the whole sheet is read, and the first faulty command gives the lowest of 5 to 11 that
+ * applies to it; then 12, 3, 13, 4; then 14; then the tables command by command, at each command 15 before 16, and for a report no
+ * further than the command asked; then 17. plain and plain_report never give 15. depth tests 1 and 5 to 12 and no more; start 1 to 13;
+ * verdict 1 to 13, then 18; step 1 to 13, then 18, then its one command, 15 before 16.
  *
  * A table here is the one after a command (document 01, Tables): of pairs for grounded, report and step, of triples for plain and
  * plain_report.
  *
  *
- * WHAT A CALL LEAVES (NEED is NUNTENNIS_WORKSPACE_WORDS(P, G))
+ * WHAT A CALL LEAVES (NEED is NUNTENNIS_WORKSPACE_WORDS(D, P, G), with the depth D of the whole sheet, also for a report)
  *
  *   Outcome                    first NEED words of workspace   report
  *   yes, no                    all zero
@@ -121,7 +123,7 @@
  *   step: moved                the tables after the command    the state after the command
  *   any other                  unchanged                       unchanged
  *
- * Words of workspace past the first NEED are never read or written. Words of report are never read.
+ * Words of workspace past the first NEED are never read or written. Words of report are never read. depth is lent nothing but the answer.
  *
  *
  * TIME
@@ -134,7 +136,8 @@
  *   11, 12           at most two pairs
  *
  * A join that is refused can take as long: 16 is said once no pair gave 15. plain and plain_report have no subsets, so a join takes
- * P*P steps at most. Beside its commands a decision, a report or start zeroes NEED words, and each step and verdict reads them all.
+ * P*P steps at most. Beside its commands a decision, a report or start zeroes NEED words, and each step and verdict reads them all; words
+ * lent beyond them cost nothing.
  *
  * Some sheets are built to take long: three blocks of copies, some of them pinned in, whose tables come near both limits, and two joins of
  * them. One nuntennis_grounded took these seconds of processor time, on an AMD EPYC that was busy with other work:
@@ -185,8 +188,10 @@ extern "C" {
 #define NUNTENNIS_STACK_BYTES 98304         /* the most stack that a call uses: see STACK */
 #define NUNTENNIS_THREAD_STACK_BYTES 262144 /* recommended for a thread that makes calls */
 
-/* Words of 32 bits that a call needs as workspace, for P and G from 1 to 1024: a constant expression if they are. */
-#define NUNTENNIS_WORKSPACE_WORDS(P, G) ((size_t)9 * (size_t)(P) * ((size_t)(G) + 2))
+/* Words of 32 bits that a call needs as workspace, for a sheet of depth D and P and G from 1 to 1024: a constant expression if they are.
+   With the second macro's words any sheet has room. */
+#define NUNTENNIS_WORKSPACE_WORDS(D, P, G) (((size_t)(D) + 1) * (size_t)(P) * ((size_t)(G) + 2))
+#define NUNTENNIS_MOST_WORKSPACE_WORDS(P, G) NUNTENNIS_WORKSPACE_WORDS(NUNTENNIS_PARTS, P, G)
 
 /* Words of 32 bits that no report is longer than. */
 #define NUNTENNIS_REPORT_WORDS(P, G) ((size_t)(P) * ((size_t)(G) + 2))
@@ -225,6 +230,19 @@ enum {
 };
 
 /*
+ * DEPTH
+ *
+ * nuntennis_depth: the most parts that the sheet has at any moment: yes with D as the value, after checks 1 and 5 to 12. In the words of
+ * NUNTENNIS_WORKSPACE_WORDS(D, P, G) every other call runs on this sheet: it does not answer 3.
+ *
+ *     nuntennis_depth(sheet, sheet_len, answer, 3);
+ *     size_t words = answer[0] == NUNTENNIS_YES ? NUNTENNIS_WORKSPACE_WORDS(answer[1], P, G) : 0;
+ *
+ * A sheet that depth refuses needs no words: the other calls refuse it alike, or by 2.
+ */
+uint64_t nuntennis_depth(const uint8_t *sheet, size_t sheet_len, uint64_t *answer, size_t answer_len);
+
+/*
  * DECISIONS
  *
  * nuntennis_grounded: is there a grounded plan that obeys the pins? Pins bind the plan, never the smaller plans that it is compared
@@ -239,10 +257,10 @@ enum {
  * Example: one copy and one rule that makes it. The plan {copy 0} is mask 1.
  *
  *     static const uint8_t sheet[] = {0x11, 0x00, 0x12, 0x01, 0x21, 0x41, 0x00, 0x01};
- *     static uint32_t workspace[NUNTENNIS_WORKSPACE_WORDS(32, 32)];
+ *     static uint32_t workspace[NUNTENNIS_MOST_WORKSPACE_WORDS(32, 32)];
  *     uint64_t answer[NUNTENNIS_ANSWER_WORDS];
  *
- *     nuntennis_grounded(sheet, sizeof sheet, 32, 32, 0, 0, workspace, NUNTENNIS_WORKSPACE_WORDS(32, 32), answer, 3);
+ *     nuntennis_grounded(sheet, sizeof sheet, 32, 32, 0, 0, workspace, NUNTENNIS_MOST_WORKSPACE_WORDS(32, 32), answer, 3);
  *     if (answer[0] == NUNTENNIS_YES) printf("plan %llx\n", (unsigned long long)answer[1]);                      // plan 1
  *     if (answer[0] == NUNTENNIS_REFUSED) printf("refusal %d at byte %d\n", (int)answer[1], (int)answer[2]);
  */
@@ -277,7 +295,7 @@ uint64_t nuntennis_plain(const uint8_t *sheet, size_t sheet_len,
  *
  *     static uint32_t report[NUNTENNIS_REPORT_WORDS(32, 32)];
  *
- *     nuntennis_report(sheet, sizeof sheet, 5, 32, 32, 0, 0, workspace, NUNTENNIS_WORKSPACE_WORDS(32, 32),
+ *     nuntennis_report(sheet, sizeof sheet, 5, 32, 32, 0, 0, workspace, NUNTENNIS_MOST_WORKSPACE_WORDS(32, 32),
  *                      report, NUNTENNIS_REPORT_WORDS(32, 32), answer, 3);
  */
 uint64_t nuntennis_report(const uint8_t *sheet, size_t sheet_len, size_t asked,
@@ -311,14 +329,14 @@ uint64_t nuntennis_plain_report(const uint8_t *sheet, size_t sheet_len, size_t a
  * or 16 and answers the same refusal. The verdict shows no plan: call nuntennis_grounded for it.
  *
  * Between calls table t (t = 0 is the oldest part) begins at word t*P*(G+2) and has counts[t] pairs in report order. A pair takes G+2
- * words: Q, number of subsets, subsets, zeros. All other words of the first 9*P*(G+2) are zero.
+ * words: Q, number of subsets, subsets, zeros. All other words of the first (D+1)*P*(G+2) are zero; words behind them may be anything.
  *
  * nuntennis_step and nuntennis_verdict test this form (refusal 18), and only the form: the place is a command's start or the end; the
  * number of tables is what the commands before it leave; counts beyond that number are zero; each table has 1 to P pairs in strictly
  * rising report order, each with at most G strictly rising subsets, all triples under 2^24; every other needed word is zero. A command
  * acts on the tables found.
  *
- * nuntennis_start     checks 1 to 13, zeroes the first 9*P*(G+2) words, and makes a record at place 0 with no tables: moved.
+ * nuntennis_start     checks 1 to 13, zeroes the first (D+1)*P*(G+2) words, and makes a record at place 0 with no tables: moved.
  * nuntennis_step      checks 1 to 13, then 18; runs the command at the record's place: moved. At the end: ended. 15 and 16 stay there.
  * nuntennis_verdict   checks 1 to 13, then 18, also where the place is not the end; reads yes or no from the final table.
  */

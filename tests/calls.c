@@ -74,7 +74,7 @@ static lent sheet_room, workspace_room, report_room, answer_room;
 void calls_begin(void)
 {
     sheet_room = lent_new(8192);
-    workspace_room = lent_new((NUNTENNIS_WORKSPACE_WORDS(1024, 1024) + 64) * 4);
+    workspace_room = lent_new((NUNTENNIS_MOST_WORKSPACE_WORDS(1024, 1024) + 64) * 4);
     report_room = lent_new((REPORT_WORDS(1024, 1024) + 64) * 4);
     answer_room = lent_new(8 * 16);
     signal(SIGSEGV, on_fault);
@@ -84,7 +84,7 @@ void calls_begin(void)
 size_t need_of(const oracle_request *r)
 {
     if (r->plan_limit < 1 || r->plan_limit > 1024 || r->subset_limit < 1 || r->subset_limit > 1024) return 200;
-    return NUNTENNIS_WORKSPACE_WORDS(r->plan_limit, r->subset_limit);
+    return NUNTENNIS_WORKSPACE_WORDS(oracle_parts(r), r->plan_limit, r->subset_limit);
 }
 
 typedef struct { const uint8_t *sheet; uint32_t *workspace, *report; uint64_t *answer; } buffers;
@@ -124,10 +124,10 @@ static bool is_zero(const uint32_t *words, size_t n)
     return true;
 }
 
-static void check_answer(call c, const oracle_request *r, const uint64_t *answer, oracle_answer want)
+static void check_answer(const char *name, const oracle_request *r, const uint64_t *answer, oracle_answer want)
 {
     if (answer[0] == want.kind && answer[1] == want.value && answer[2] == want.place) return;
-    disagree(names[c], r, "answer %" PRIu64 " %" PRIu64 " %" PRIu64 ", expected %" PRIu64 " %" PRIu64 " %" PRIu64, answer[0], answer[1],
+    disagree(name, r, "answer %" PRIu64 " %" PRIu64 " %" PRIu64 ", expected %" PRIu64 " %" PRIu64 " %" PRIu64, answer[0], answer[1],
              answer[2], want.kind, want.value, want.place);
 }
 
@@ -158,10 +158,20 @@ static void check_untouched(call c, const oracle_request *r, uint64_t seed)
     if (!is_untouched(&report_room, 4 * r->report_len, 0, seed)) disagree(names[c], r, "a short answer slice, and a changed report");
 }
 
-void expect_call(call c, const oracle_request *r, oracle_answer want, const oracle_table *table)
+static void expect_depth(const oracle_request *r, uint64_t seed)
 {
-    static uint64_t seed;
-    seed += 1000003;
+    static const char name[] = "nuntennis_depth";
+    buffers b = lend_all(r, seed);
+    watch(name, r);
+    uint64_t returned = nuntennis_depth(b.sheet, r->sheet_len, b.answer, r->answer_len);
+    watch(NULL, NULL);
+    if (returned != (r->answer_len >= 3)) disagree(name, r, "it returned %" PRIu64, returned);
+    if (returned == 1) check_answer(name, r, b.answer, oracle_depth(r));
+    if (!is_untouched(&answer_room, 8 * r->answer_len, returned ? 24 : 0, seed)) disagree(name, r, "an answer word was changed");
+}
+
+static void make_and_check(call c, const oracle_request *r, oracle_answer want, const oracle_table *table, uint64_t seed)
+{
     buffers b = lend_all(r, seed);
     watch(names[c], r);
     uint64_t returned = make_call(c, r, &b);
@@ -172,8 +182,16 @@ void expect_call(call c, const oracle_request *r, oracle_answer want, const orac
         check_untouched(c, r, seed);
         return;
     }
-    check_answer(c, r, b.answer, want);
+    check_answer(names[c], r, b.answer, want);
     if (!is_untouched(&answer_room, 8 * r->answer_len, 24, seed)) disagree(names[c], r, "an answer word past the third was changed");
     check_workspace(c, r, &b, want, seed);
     check_report(c, r, &b, table, seed);
+}
+
+void expect_call(call c, const oracle_request *r, oracle_answer want, const oracle_table *table)
+{
+    static uint64_t seed;
+    seed += 1000003;
+    make_and_check(c, r, want, table, seed);
+    expect_depth(r, seed);
 }

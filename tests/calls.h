@@ -17,7 +17,7 @@ extern uint64_t case_number;
 void calls_begin(void);
 
 // Makes the call. The answer must be the one wanted, the plan of a yes included; all buffers must be as 01 says. A wanted report is the
-// table's words.
+// table's words. Then the sheet's depth is asked, and must be the oracle's.
 void expect_call(call c, const oracle_request *r, oracle_answer want, const oracle_table *table);
 
 // The call that is running, NULL for none: named should it touch a page that it may not.
@@ -26,7 +26,7 @@ void watch(const char *call, const oracle_request *r);
 // Prints the case as a sheet file, what is wrong with it, and ends the program with status 1.
 _Noreturn void disagree(const char *call, const oracle_request *r, const char *format, ...);
 
-// Words of workspace needed; for limits outside 1 to 1024 some number.
+// Words of workspace needed; for a sheet with a fault, or limits outside 1 to 1024, some number.
 size_t need_of(const oracle_request *r);
 
 #endif

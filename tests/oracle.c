@@ -266,20 +266,42 @@ static bool is_limit(uint64_t n)
     return n >= 1 && n <= 1024;
 }
 
-oracle_answer oracle_check(const oracle_request *r)
+// 5 to 12, and what the commands before the first fault build.
+static oracle_answer read_sheet(const oracle_request *r, policy *p)
 {
-    if (r->sheet_len > 4096) return refused(1, 0);
-    if (!is_limit(r->plan_limit) || !is_limit(r->subset_limit)) return refused(2, 0);
-    if (r->workspace_len < 9 * r->plan_limit * (r->subset_limit + 2)) return refused(3, 0);
-    policy p = {0};
     for (size_t at = 0; at < r->sheet_len;) {
-        unsigned fault = policy_fault(r->sheet, r->sheet_len, at, &p);
+        unsigned fault = policy_fault(r->sheet, r->sheet_len, at, p);
         if (fault != 0) return refused(fault, at);
         policy_command c = policy_command_at(r->sheet, at);
-        policy_apply(&p, &c);
+        policy_apply(p, &c);
         at = c.next;
     }
-    if (p.parts != 1) return refused(12, r->sheet_len);
+    return p->parts == 1 ? passed : refused(12, r->sheet_len);
+}
+
+unsigned oracle_parts(const oracle_request *r)
+{
+    policy p = {0};
+    read_sheet(r, &p);
+    return p.most_parts;
+}
+
+oracle_answer oracle_depth(const oracle_request *r)
+{
+    policy p = {0};
+    if (r->sheet_len > 4096) return refused(1, 0);
+    oracle_answer a = read_sheet(r, &p);
+    return a.kind == 2 ? a : (oracle_answer){1, p.most_parts, 0};
+}
+
+oracle_answer oracle_check(const oracle_request *r)
+{
+    policy p = {0};
+    if (r->sheet_len > 4096) return refused(1, 0);
+    if (!is_limit(r->plan_limit) || !is_limit(r->subset_limit)) return refused(2, 0);
+    oracle_answer a = read_sheet(r, &p);
+    if (a.kind == 2) return a;
+    if (r->workspace_len < (p.most_parts + 1) * r->plan_limit * (r->subset_limit + 2)) return refused(3, 0);
     for (unsigned c = p.atoms; c < 64; c++)
         if ((r->pins_in >> c & 1) || (r->pins_out >> c & 1)) return refused(13, r->sheet_len);
     if ((r->pins_in & r->pins_out) != 0) return refused(4, 0);
@@ -449,7 +471,7 @@ bool oracle_is_record(const oracle_request *r, const uint64_t record[10], const 
         if (t >= depth && record[2 + t] != 0) return false;
         if (t < depth && !is_table(r, workspace + t * area, record[2 + t])) return false;
     }
-    return is_zero(workspace + depth * area, (9 - depth) * area);
+    return is_zero(workspace + depth * area, (oracle_parts(r) + 1 - depth) * area);
 }
 
 oracle_table oracle_found(const oracle_request *r, const uint64_t record[10], const uint32_t *workspace, unsigned t)

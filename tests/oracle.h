@@ -51,6 +51,12 @@ void oracle_forget(oracle_history *history);
 // Checks 1 to 13: kind 2, or kind 0 where all pass.
 oracle_answer oracle_check(const oracle_request *request);
 
+// The most parts at once: checks 1 and 5 to 12, and then kind 1.
+oracle_answer oracle_depth(const oracle_request *request);
+
+// Those of the commands before the first fault.
+unsigned oracle_parts(const oracle_request *request);
+
 // The least limits, from 1 on, that no table exceeds.
 void oracle_need(const oracle_history *history, uint64_t *plan_limit, uint64_t *subset_limit);
 

@@ -96,6 +96,7 @@ void policy_apply(policy *p, const policy_command *c)
     case 0x42: link(p, p->positive, c->i, c->j); break;
     case 0x43: link(p, p->negative, c->i, c->j); break;
     }
+    if (p->parts > p->most_parts) p->most_parts = p->parts;
 }
 
 void policy_build(policy *p, const uint8_t *sheet, size_t sheet_len)

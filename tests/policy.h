@@ -10,7 +10,7 @@ typedef struct { unsigned code, i, j; size_t offset, next; } policy_command;
 
 // Atoms and rules of all parts; part 0 is the oldest.
 typedef struct {
-    unsigned atoms, rules, parts;
+    unsigned atoms, rules, parts, most_parts; // the parts there are, and the most there were at once
     uint8_t atom_label[64], atom_part[64];
     uint8_t rule_label[256], rule_part[256];
     uint64_t head[256], positive[256], negative[256];

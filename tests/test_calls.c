@@ -1,4 +1,4 @@
-// Decisions and reports with known answers: document 01's sheets to try, the order of its checks, the limits of a sheet, short buffers.
+// Decisions and reports with known answers: document 01's sheets to try, the order of its checks, the limits of a sheet, short buffers, rooms.
 #include "calls.h"
 
 #include <inttypes.h>
@@ -255,6 +255,64 @@ static void try_limits(void)
     printf("limits of a sheet: 20 agree\n");
 }
 
+// ---- the room (02, Item 8): an area for each of the parts at once, and one more
+
+// So many copies that are parts at once, then joined.
+static size_t deep_sheet(uint8_t *sheet, unsigned parts)
+{
+    size_t n = leaves(sheet, parts, 0, parts);
+    memset(sheet + n, 0x21, parts - 1);
+    return n + parts - 1;
+}
+
+// A word less is refused by all calls; with no more than is needed, and with more, they answer. The report stops at the first command.
+static unsigned try_room(oracle_request *r, size_t need)
+{
+    static const uint32_t leaf[] = {1, 1, 256, 256, 0};
+    const size_t rooms[] = {need, need + 1, NUNTENNIS_MOST_WORKSPACE_WORDS(r->plan_limit, r->subset_limit)};
+    r->workspace_len = need - 1;
+    expect_call(CALL_GROUNDED, r, (oracle_answer)REFUSED(3, 0), NULL);
+    expect_call(CALL_PLAIN, r, (oracle_answer)REFUSED(3, 0), NULL);
+    expect_report(CALL_REPORT, r, 0, 5, (oracle_answer)REFUSED(3, 0), NULL);
+    for (size_t k = 0; k < 3; k++) {
+        r->workspace_len = rooms[k];
+        expect_call(CALL_GROUNDED, r, (oracle_answer)YES(0), NULL);
+        expect_call(CALL_PLAIN, r, (oracle_answer)YES(0), NULL);
+        expect_report(CALL_REPORT, r, 0, 5, (oracle_answer){1, 2, 5}, leaf);
+    }
+    return 12;
+}
+
+// Too little room comes behind a fault of the sheet, and before pins.
+static unsigned try_order(oracle_request r, uint8_t *sheet, size_t need)
+{
+    r.pins_in = r.pins_out = COPY40;
+    r.workspace_len = need - 1;
+    expect_call(CALL_GROUNDED, &r, (oracle_answer)REFUSED(3, 0), NULL);
+    r.workspace_len = need;
+    expect_call(CALL_GROUNDED, &r, (oracle_answer)REFUSED(13, r.sheet_len), NULL);
+    r.workspace_len = 0;
+    sheet[r.sheet_len++] = 0x99;
+    expect_call(CALL_GROUNDED, &r, (oracle_answer)REFUSED(5, r.sheet_len - 1), NULL);
+    sheet[r.sheet_len - 1] = 0x12;
+    sheet[r.sheet_len++] = 0x00;
+    expect_call(CALL_GROUNDED, &r, (oracle_answer)REFUSED(12, r.sheet_len), NULL);
+    return 4;
+}
+
+static void try_rooms(void)
+{
+    uint8_t sheet[64];
+    unsigned n = 0;
+    case_name = "rooms";
+    for (unsigned parts = 1; parts <= NUNTENNIS_PARTS; parts++) {
+        oracle_request r = {sheet, deep_sheet(sheet, parts), 8, 6, 0, 0, 0, 0, 0, 3};
+        size_t need = (parts + 1) * 64;
+        n += try_room(&r, need) + try_order(r, sheet, need);
+    }
+    printf("rooms for one to eight parts: %u agree\n", n);
+}
+
 // 15 at the join whatever P of at least 2 is.
 static void try_every_p(void)
 {
@@ -275,6 +333,7 @@ int main(void)
     try_listed_reports();
     try_short_buffers();
     try_limits();
+    try_rooms();
     try_every_p();
     printf("test_calls: all agree\n");
     return 0;

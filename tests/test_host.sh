@@ -176,8 +176,10 @@ expect 5 'text.hex:2: a second answer of its kind: plain 1 0 0' "$host" text.hex
 text '#: answer 1 1 0\n#: plain 1 0 0\n#: answer 1 2 0\n11 00\n'
 expect 5 'text.hex:3: a second answer of its kind: answer 1 2 0' "$host" text.hex
 
-# ---- no memory, no room for the output
-expect 7 'host: no memory for 9455616 words' short_of_memory "$host" -p 1024 -g 1024 listed.hex
+# ---- no memory, no room for the output: a sheet of eight parts at once needs three times the words of one of two, which there are
+echo '11 00 11 00 11 00 11 00 11 00 11 00 11 00 11 00 21 21 21 21 21 21 21' >eight.hex
+expect 7 'host: no memory for 9455616 words' short_of_memory "$host" -p 1024 -g 1024 eight.hex
+expect 0 'P = 1024, G = 1024;' short_of_memory "$host" -p 1024 -g 1024 listed.hex
 expect 7 '/dev/zero: no memory for its' short_of_memory "$host" --raw /dev/zero
 expect 8 'host: output cannot be written: No space left on device' onto /dev/full "$host" listed.hex
 expect 8 'host: output cannot be written: No space left on device' onto /dev/full "$host" "$sheets/refused_group.hex"

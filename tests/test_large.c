@@ -173,7 +173,7 @@ int main(int arguments, char **argument)
     random_source s = {4711};
     tally n = {0};
     uint64_t sheets = arguments > 1 ? strtoull(argument[1], NULL, 10) : 120;
-    workspace = malloc(4 * NUNTENNIS_WORKSPACE_WORDS(1024, 1024));
+    workspace = malloc(4 * NUNTENNIS_MOST_WORKSPACE_WORDS(1024, 1024));
     report = malloc(4 * REPORT_WORDS(1024, 1024));
     calls_begin();
     try_families(&s, &n);

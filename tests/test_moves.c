@@ -16,7 +16,7 @@ enum { PAIRS = 1, SUBSETS = 16, VARIANTS = 4 };
 // A set of groups; where the groups of unmet rules begin in a triple.
 enum { GROUPS = NUNTENNIS_GROUPS, SETS = 1 << GROUPS, UNMET = 2 * GROUPS };
 
-static const size_t words = NUNTENNIS_WORKSPACE_WORDS(PAIRS, SUBSETS), report_words = NUNTENNIS_REPORT_WORDS(PAIRS, SUBSETS);
+static const size_t words = NUNTENNIS_MOST_WORKSPACE_WORDS(PAIRS, SUBSETS), report_words = NUNTENNIS_REPORT_WORDS(PAIRS, SUBSETS);
 
 typedef struct {
     uint8_t sheet[64];
@@ -57,7 +57,7 @@ static inline void unwatch(void)
 // The command at byte 2, on the question's table.
 static uint64_t step(const question *q, path *p)
 {
-    static uint32_t workspace[NUNTENNIS_WORKSPACE_WORDS(PAIRS, SUBSETS)];
+    static uint32_t workspace[NUNTENNIS_MOST_WORKSPACE_WORDS(PAIRS, SUBSETS)];
     uint64_t answer[3];
     nuntennis_record record = {2, 1, {1}};
     memset(workspace, 0, sizeof workspace);
@@ -71,7 +71,7 @@ static uint64_t step(const question *q, path *p)
 // The table after the last command, which has three bytes.
 static uint64_t report(const question *q, path *p)
 {
-    static uint32_t workspace[NUNTENNIS_WORKSPACE_WORDS(PAIRS, SUBSETS)], written[NUNTENNIS_REPORT_WORDS(PAIRS, SUBSETS)];
+    static uint32_t workspace[NUNTENNIS_MOST_WORKSPACE_WORDS(PAIRS, SUBSETS)], written[NUNTENNIS_REPORT_WORDS(PAIRS, SUBSETS)];
     uint64_t answer[3];
     watch(p);
     nuntennis_report(q->sheet, q->sheet_len, q->sheet_len - 3, PAIRS, SUBSETS, q->pins_in, q->pins_out, workspace, words, written, report_words,

@@ -85,8 +85,9 @@ static void random_lengths(random_source *s, oracle_request *r)
 {
     unsigned choice = random_below(s, 40);
     r->workspace_len = need_of(r);
-    if (choice == 0) r->workspace_len--;
-    else if (choice < 10) r->workspace_len += random_below(s, 20);
+    if (choice < 3) r->workspace_len--;
+    else if (choice < 5) r->workspace_len = random_below(s, (unsigned)r->workspace_len);
+    else if (choice < 12) r->workspace_len += random_below(s, 20);
     choice = random_below(s, 120);
     r->answer_len = choice < 4 ? choice % 3 : choice < 30 ? 3 + choice % 4 : 3;
 }

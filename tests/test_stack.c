@@ -10,7 +10,7 @@
 
 enum { STACK = 1 << 20, PAINT = 0xA5, THREADS = 4 };
 
-static const size_t words = NUNTENNIS_WORKSPACE_WORDS(1024, 1024), report_words = NUNTENNIS_REPORT_WORDS(1024, 1024);
+static const size_t words = NUNTENNIS_MOST_WORKSPACE_WORDS(1024, 1024), report_words = NUNTENNIS_REPORT_WORDS(1024, 1024);
 
 // What the calls of one thread are lent.
 typedef struct { uint32_t *workspace, *report; uint64_t answer[3]; } room;
@@ -18,6 +18,11 @@ typedef struct { uint32_t *workspace, *report; uint64_t answer[3]; } room;
 static void no_call(const instance *x, room *r)
 {
     (void)x, (void)r;
+}
+
+static void call_depth(const instance *x, room *r)
+{
+    nuntennis_depth(x->sheet, x->sheet_len, r->answer, 3);
 }
 
 static void call_grounded(const instance *x, room *r)
@@ -61,9 +66,10 @@ static void call_walk(const instance *x, room *r)
 
 typedef void call(const instance *, room *);
 
-enum { CALLS = 5 };
+enum { CALLS = 6 };
 
 static const struct { const char *name; call *call; } calls[CALLS] = {
+    {"depth", call_depth},
     {"grounded", call_grounded},
     {"plain", call_plain},
     {"report", call_report},

@@ -310,7 +310,8 @@ static void damage_row(random_source *s, walk *w)
 static void damage_word(random_source *s, walk *w)
 {
     size_t need = need_of(&w->r), area = area_of(&w->r);
-    size_t k = random_below(s, 3) == 0 ? 8 * area + random_below(s, (unsigned)area) : random_below(s, (unsigned)w->r.workspace_len);
+    size_t scratch = oracle_parts(&w->r) * area;
+    size_t k = random_below(s, 3) == 0 ? scratch + random_below(s, (unsigned)area) : random_below(s, (unsigned)w->r.workspace_len);
     if (random_below(s, 8) == 0) k = need - 1;
     w->workspace_due[k] = (uint32_t)random_word(s, w->workspace_due[k]);
 }

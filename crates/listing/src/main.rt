@@ -171,7 +171,7 @@ fn print_listing(s: &[u8], ws: &mut [u32], words: &mut [u32])
     print_table(s, ws, words);
 }
 
-// The words that tables need, and a buffer for the largest of them.
+// The most words that tables need, and a buffer for the largest of them.
 fn list(s: &[u8]) {
     let mut ws = [0u32; AREAS * AREA];
     let mut words = [0u32; AREA];

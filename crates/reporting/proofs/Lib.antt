@@ -1,2 +1,3 @@
 pub mod Newest
 pub mod Plainly
+pub mod Early
