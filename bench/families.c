@@ -303,6 +303,21 @@ static void heavy(instance **next, const char *family, uint64_t limit, unsigned 
     }
 }
 
+// ---- short sheets under the widest limits: most of the time is the zeroing of the words needed
+
+static void widen(instance *x)
+{
+    x->plan_limit = x->subset_limit = 1024;
+}
+
+// So many copies that are parts at once, then joined.
+static void parts(instance **next, const char *family, unsigned count)
+{
+    instance *x = begin(next, family, 1024, 1024);
+    for (unsigned k = 0; k < count; k++) leaf(x, 0x11, 0);
+    for (unsigned k = 1; k < count; k++) join(x);
+}
+
 size_t all_families(instance *instances)
 {
     instance *next = instances;
@@ -325,12 +340,17 @@ size_t all_families(instance *instances)
     moves(&next, "moves of groups, 128 pairs", 8, 1024, 1);
     rule_moves(&next, "moves of rules, 243 pairs", 240, 1);
     heavy(&next, "heavy joins, 32 by 32 pairs", 32, 5, 0);
+    parts(&next, "wide limits, 2 parts", 2);
+    parts(&next, "wide limits, 3 parts", 3);
+    parts(&next, "wide limits, 8 parts", 8);
     return (size_t)(next - instances);
 }
 
 size_t long_families(instance *instances)
 {
     instance *next = instances;
+    random_policy(&next, "wide limits, 12 copies", 12, 1);
+    widen(next - 1);
     heavy(&next, "heavy joins, 128 by 128 pairs", 128, 7, 0);
     heavy(&next, "heavy joins, 256 by 256 pairs", 256, 8, 0);
     return (size_t)(next - instances);

@@ -15,7 +15,7 @@ typedef struct {
 // Fill in their sheets, at most INSTANCES together; how many there are.
 enum { INSTANCES = 80 };
 size_t all_families(instance *instances);  // all that take milliseconds
-size_t long_families(instance *instances); // the benchmark's own: a decision takes seconds
+size_t long_families(instance *instances); // the benchmark's own: a decision, or a walk of it, takes seconds
 
 // One sheet of 404 bytes whose decision takes minutes.
 void longest_family(instance *x);

@@ -20,18 +20,18 @@ static oracle_answer wanted(call c, const oracle_request *r)
     uint64_t answer[3];
     switch (c) {
     case CALL_GROUNDED:
-        reference_grounded(r->sheet, r->sheet_len, r->plan_limit, r->subset_limit, r->pins_in, r->pins_out, workspace, need_of(r), answer, 3);
+        reference_grounded(r->sheet, r->sheet_len, r->plan_limit, r->subset_limit, r->pins_in, r->pins_out, workspace, r->workspace_len, answer, 3);
         break;
     case CALL_PLAIN:
-        reference_plain(r->sheet, r->sheet_len, r->plan_limit, r->subset_limit, r->pins_in, r->pins_out, workspace, need_of(r), answer, 3);
+        reference_plain(r->sheet, r->sheet_len, r->plan_limit, r->subset_limit, r->pins_in, r->pins_out, workspace, r->workspace_len, answer, 3);
         break;
     case CALL_REPORT:
-        reference_report(r->sheet, r->sheet_len, r->asked, r->plan_limit, r->subset_limit, r->pins_in, r->pins_out, workspace, need_of(r),
+        reference_report(r->sheet, r->sheet_len, r->asked, r->plan_limit, r->subset_limit, r->pins_in, r->pins_out, workspace, r->workspace_len,
                          report, r->report_len, answer, 3);
         break;
     default:
         reference_plain_report(r->sheet, r->sheet_len, r->asked, r->plan_limit, r->subset_limit, r->pins_in, r->pins_out, workspace,
-                               need_of(r), report, r->report_len, answer, 3);
+                               r->workspace_len, report, r->report_len, answer, 3);
     }
     return (oracle_answer){answer[0], answer[1], answer[2]};
 }
@@ -84,18 +84,19 @@ static void try_walk(oracle_request r, random_source *s, tally *n)
 {
     nuntennis_record record = {0};
     uint64_t answer[3];
-    uint32_t *found = malloc(4 * need_of(&r));
+    r.workspace_len = need_of(&r);
+    uint32_t *found = malloc(4 * r.workspace_len);
     r.report_len = REPORT_WORDS(r.plan_limit, r.subset_limit);
-    nuntennis_start(&record, found, need_of(&r), r.sheet, r.sheet_len, r.plan_limit, r.subset_limit, r.pins_in, r.pins_out, answer, 3);
+    nuntennis_start(&record, found, r.workspace_len, r.sheet, r.sheet_len, r.plan_limit, r.subset_limit, r.pins_in, r.pins_out, answer, 3);
     while (answer[0] == NUNTENNIS_MOVED) {
         r.asked = record.place;
-        nuntennis_step(&record, found, need_of(&r), r.sheet, r.sheet_len, r.plan_limit, r.subset_limit, r.pins_in, r.pins_out, answer, 3);
+        nuntennis_step(&record, found, r.workspace_len, r.sheet, r.sheet_len, r.plan_limit, r.subset_limit, r.pins_in, r.pins_out, answer, 3);
         n->steps++;
         if (answer[0] == NUNTENNIS_MOVED && (random_below(s, 40) == 0 || r.sheet_len < 100)) compare_newest(&r, &record, found);
     }
     oracle_answer want = wanted(CALL_GROUNDED, &r);
     if (answer[0] == NUNTENNIS_ENDED)
-        nuntennis_verdict(&record, found, need_of(&r), r.sheet, r.sheet_len, r.plan_limit, r.subset_limit, r.pins_in, r.pins_out, answer, 3);
+        nuntennis_verdict(&record, found, r.workspace_len, r.sheet, r.sheet_len, r.plan_limit, r.subset_limit, r.pins_in, r.pins_out, answer, 3);
     bool is_same = want.kind == 2 ? answer[1] == want.value && answer[2] == want.place : answer[1] == 0 && answer[2] == 0;
     if (answer[0] != want.kind || !is_same) disagree("a walk", &r, "its end is not the decision's");
     free(found);
