@@ -14,11 +14,11 @@ use Rattle.expression.specs.declared.Checked.{Checked}
 use Rattle.expression.specs.declared.Checked.the-variants.{Passed, Refused}
 use Rattle.expression.specs.declared.Outcome.the-variants as outcome
 use Rattle.expression.specs.Limits.{depthLimit, areaWords, workspaceNeed}
-use Rattle.expression.specs.Refusals.{cramped}
+use Rattle.expression.specs.Refusals.{limits, cramped}
 use Rattle.expression.specs.Reading.{Reading, noCounts, faulty, whole, reading}
 use Rattle.expression.specs.Checks.{Request, Test, firstOf, countsOf, overlongTest, limitsTest, crampedTest, clashTest, faultTest, unjoinedTest, absentTest, checks, check, checkBytes, checkSheet, depthOf, needOf, depthTold, depthOutcome}
 use Rattle.expression.proofs.Readings.{reading-limited}
-use Rattle.expression.proofs.Checks.{Pass, passed-all, firstElse, else-pass, else-refuse}
+use Rattle.expression.proofs.Checks.{Pass, refuses, passes, passed-all, firstElse, else-pass, else-refuse, bytes-refuse}
 use Rattle.expression.proofs.Moving.{moved-passes, moved-behind, refused-before, passed-after, refused-after}
 use Rattle.expression.proofs.Clashes.{clashChecks, clashCheck}
 
@@ -104,7 +104,7 @@ module _ (K : ℕ) (a : Request) where
       early (Refused n at) e = inl (same-refused e)
       early (Passed z) e = short (ltb (a .room) (workspaceNeed depthLimit (a .pairLimit) (a .subsetLimit))) refl (passed-all _ z first e .0)
 
--- ---- the depth told is enough: in room for it 2, 13 and 4 are left to refuse
+-- ---- the depth told: in room for it 2, 13 and 4 are left to refuse
 
 module _ (K : ℕ) (a : Request) (d : ℕ) (told : depthOutcome K (a .bytes) ≡ outcome.Yes d) where
   abbrev Joins : Type 0
@@ -124,3 +124,31 @@ module _ (K : ℕ) (a : Request) (d : ℕ) (told : depthOutcome K (a .bytes) ≡
       let ((one, (five, (twelve, none))), same) = joins in
       let fits : needOf K a ≤ a .room = rw (sym same) e in
       rw (one, five, twelve, le-ltb (a .room) _ fits)
+
+-- where none is told, the checks refuse alike, or by 2: no room is needed
+module _ (K : ℕ) (a : Request) {n at : ℕ} (told : depthOutcome K (a .bytes) ≡ outcome.Refused n at) where
+  abbrev one : Test
+  one = overlongTest (a .bytes)
+
+  abbrev two : Test
+  two = limitsTest (a .pairLimit) (a .subsetLimit)
+
+  abbrev z : Counts
+  z = countsOf (r K a)
+
+  abbrev rest : List Test
+  rest = faultTest (r K a) ∷ unjoinedTest (a .bytes) (r K a) ∷ used K a ∷ later K a
+
+  pub depth-refused : (check K a ≡ Refused n at) ⊎ (check K a ≡ Refused limits 0)
+  unfolding depthOutcome checkSheet check checks checkBytes limitsTest
+  depth-refused = by (one .refuses) (two .refuses) refl refl (alike (checkSheet K (a .bytes)) told)
+    where
+      alike : (c : Checked) → depthTold c ≡ outcome.Refused n at → c ≡ Refused n at
+      alike (Passed z) g = let q : _≡_ {A = ℕ} 0 1 = cc in absurd (omega arith)
+      alike (Refused m p) g = cc
+
+      by : (b c : Bool) → one .refuses ≡ b → two .refuses ≡ c → checkSheet K (a .bytes) ≡ Refused n at → (check K a ≡ Refused n at) ⊎ (check K a ≡ Refused limits 0)
+      by true c e f h = inl (sym (refuses z one (two ∷ rest) e) ∙ refuses z one (read K a) e ∙ h)
+      by false true e f h = inr (sym (passes z one (two ∷ rest) _ e (refuses z two rest f)))
+      by false false e f h =
+          inl (sym (passes z one (two ∷ rest) _ e (passes z two rest _ f (bytes-refuse K (a .bytes) (used K a ∷ later K a) n at (passes z one (read K a) _ e refl ∙ h)))))

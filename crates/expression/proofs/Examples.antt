@@ -1,18 +1,19 @@
 -- Refusals before any table, as one table under one theorem: 01's sheets to try, and orders of tests that are easily got wrong. Assumes nothing.
 use mathlib.Core.Path.{_≡_, refl}
 use mathlib.Core.Bool.{Bool, true, false, _&&_}
-use mathlib.Core.List.{List, [], _∷_, _++_}
+use mathlib.Core.List.{List, [], _∷_, _++_, map}
 use Prim.Native.Nat.{ℕ, zero, suc, _^_}
 use lib.Dec.{eqb}
 use Rattle.lists.specs.Lists.{every}
 use Rattle.labels.specs.Labels.{labelCount}
 use Rattle.expression.specs.declared.Checked.{Checked}
 use Rattle.expression.specs.declared.Checked.the-variants.{Passed, Refused}
+use Rattle.expression.specs.declared.Outcome.the-variants as outcome
 use Rattle.expression.specs.Limits.{workspaceNeed}
 use Rattle.expression.specs.Commands.{oneOperand, twoOperands, isCommand, operandCount, commandOf, readCommand, readAt}
 use Rattle.expression.specs.Effects.{effect}
 use Rattle.expression.specs.Reading.{noCounts, counted, countFault, behind, readFrom, reading}
-use Rattle.expression.specs.Checks.{Request, firstOf, isFaulty, faultNumber, faultPlace, countsOf, isLimit, overlongTest, limitsTest, crampedTest, clashTest, faultTest, unjoinedTest, absentTest, checks, check, depthOf}
+use Rattle.expression.specs.Checks.{Request, firstOf, isFaulty, faultNumber, faultPlace, countsOf, isLimit, overlongTest, limitsTest, crampedTest, clashTest, faultTest, unjoinedTest, absentTest, checks, check, checkSheet, depthOf, depthOutcome}
 
 same : Checked → Checked → Bool
 same (Passed y) (Passed z) = eqb (y .atoms) (z .atoms) && eqb (y .rules) (z .rules) && eqb (y .depth) (z .depth) && eqb (y .deepest) (z .deepest)
@@ -160,3 +161,10 @@ examples : every right rows ≡ true
 unfolding every right rows row passed roomed times opening listed five eight same check checks overlongTest limitsTest crampedTest clashTest faultTest unjoinedTest absentTest depthOf isLimit countsOf faultPlace faultNumber isFaulty firstOf reading readFrom behind
     countFault counted effect noCounts readAt readCommand commandOf operandCount isCommand twoOperands oneOperand
 examples = refl
+
+-- 02, Item 8: the depth told, and 1 and 5 to 12 in its place
+tells : map (depthOutcome labelCount) (listed ∷ (0x11 ∷ 7 ∷ []) ∷ eight ∷ [] ∷ (opening ++ (0x99 ∷ [])) ∷ (opening ++ (0x11 ∷ 0 ∷ [])) ∷ times 4097 (0 ∷ []) ∷ [])
+    ≡ outcome.Yes 2 ∷ outcome.Yes 1 ∷ outcome.Yes 8 ∷ outcome.Refused 12 0 ∷ outcome.Refused 5 5 ∷ outcome.Refused 12 7 ∷ outcome.Refused 1 0 ∷ []
+unfolding times opening listed eight depthOutcome checkSheet overlongTest faultTest unjoinedTest countsOf faultPlace faultNumber isFaulty firstOf reading readFrom behind
+    countFault counted effect noCounts readAt readCommand commandOf operandCount isCommand twoOperands oneOperand
+tells = refl
