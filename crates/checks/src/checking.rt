@@ -60,10 +60,10 @@ pub fn check(
 pub fn check_sheet(s: &[u8]) -> Checked
     ensures { λ r. ⌜ r ≡ checkSheet labelCount (now (s .entry)) ⌝ }
 {
-    if s.len() > BYTE_LIMIT {
-        return Checked::Refused(OVERLONG, 0);
+    if s.len() <= BYTE_LIMIT {
+        return check_bytes(s);
     }
-    check_bytes(s)
+    Checked::Refused(OVERLONG, 0)
 }
 
 // 5 to 11 at the first faulty command, then 12; else the counts of the whole expression.

@@ -1,6 +1,7 @@
 -- `plain_calls::plain`: a check refuses, or the walk decides.
 use mathlib.Core.Path.{_≡_, sym, ap, _∙_, subst}
 use lib.ListN.{length}
+use native.Mathlib.Omega.{arith}
 use Rattle.labels.specs.Labels.{labelCount}
 use Rattle.expression.specs.declared.Counts.{Counts}
 use Rattle.expression.specs.declared.Checked.the-variants.{Passed}
@@ -58,7 +59,9 @@ returns c =
     (r, (plain-right labelCount (asked s) r, words-stay labelCount (asked s) (s .args .ws .now) h))
 
 frame-for-requires : tie.Need-frame-for-requires
-frame-for-requires c κs = let e = c .before in framed (asked (start e)) (passed e)
+frame-for-requires c κs =
+    let e = c .before in
+    let f = framed (asked (start e)) (passed e) in (f .0, f .1, omega arith)
 
 -- its frame
 module _ (v : tie.After-frame-for) where

@@ -1,6 +1,7 @@
 -- `starts::start`: a check refuses, or all is cleared.
 use mathlib.Core.Path.{_≡_, sym, ap, _∙_}
 use Prim.Native.Nat.{ℕ}
+use native.Mathlib.Omega.{arith}
 use lib.ListN.{length}
 use Rattle.labels.specs.Labels.{labelCount}
 use Rattle.expression.specs.declared.Checked.the-variants.{Passed}
@@ -47,7 +48,9 @@ returns c =
     let f = by-stays (start-refused labelCount (asked s) (s .args .state) (s .args .ws .now) h) (c .refusal .result) (c .refusal .ensures ∙ ap refusedProgress (g .1)) in (f .0, (f .1, f .2))
 
 frame-for-requires : tie.Need-frame-for-requires
-frame-for-requires c κs = let e = c .before .before in framed (asked (origin e)) (passed e)
+frame-for-requires c κs =
+    let e = c .before .before in
+    let f = framed (asked (origin e)) (passed e) in (omega arith, f .1, f .2)
 
 -- the words of its frame are those needed
 module _ (v : tie.After-frame-for) where
