@@ -107,21 +107,21 @@ module _ (K : ℕ) (a : Request) where
 -- ---- the depth told: in room for it 2, 13 and 4 are left to refuse
 
 module _ (K : ℕ) (a : Request) (d : ℕ) (told : depthOutcome K (a .bytes) ≡ outcome.Yes d) where
-  abbrev Joins : Type 0
-  Joins = Pass (overlongTest (a .bytes) ∷ faultTest (r K a) ∷ unjoinedTest (a .bytes) (r K a) ∷ []) × (d ≡ depthOf K (a .bytes))
+  abbrev Passes : Type 0
+  Passes = Pass (overlongTest (a .bytes) ∷ faultTest (r K a) ∷ unjoinedTest (a .bytes) (r K a) ∷ []) × (d ≡ depthOf K (a .bytes))
 
-  joins : Joins
+  sheet-passes : Passes
   unfolding depthOutcome checkSheet depthOf
-  joins = by (checkSheet K (a .bytes)) refl told
+  sheet-passes = by (checkSheet K (a .bytes)) refl told
     where
-      by : (c : Checked) → checkSheet K (a .bytes) ≡ c → depthTold c ≡ outcome.Yes d → Joins
+      by : (c : Checked) → checkSheet K (a .bytes) ≡ c → depthTold c ≡ outcome.Yes d → Passes
       by (Passed z) e g = let (p, q) = passed-all _ z _ e in let y : z .deepest ≡ d = cc in (p, sym y ∙ sym (ap (λ (x : Counts). x .deepest) q))
       by (Refused n at) e g = let q : _≡_ {A = ℕ} 0 1 = cc in absurd (omega arith)
 
   pub depth-enough : workspaceNeed d (a .pairLimit) (a .subsetLimit) ≤ a .room → check K a ≡ firstOf (countsOf (r K a)) (limitsTest (a .pairLimit) (a .subsetLimit) ∷ later K a)
   unfolding check checks firstOf crampedTest depthOf
   depth-enough e =
-      let ((one, (five, (twelve, none))), same) = joins in
+      let ((one, (five, (twelve, none))), same) = sheet-passes in
       let fits : needOf K a ≤ a .room = rw (sym same) e in
       rw (one, five, twelve, le-ltb (a .room) _ fits)
 

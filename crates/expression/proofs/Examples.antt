@@ -163,8 +163,8 @@ unfolding every right rows row passed roomed times opening listed five eight sam
 examples = refl
 
 -- 02, Item 8: the depth told, and 1 and 5 to 12 in its place
-tells : map (depthOutcome labelCount) (listed ∷ (0x11 ∷ 7 ∷ []) ∷ eight ∷ [] ∷ (opening ++ (0x99 ∷ [])) ∷ (opening ++ (0x11 ∷ 0 ∷ [])) ∷ times 4097 (0 ∷ []) ∷ [])
+depth-examples : map (depthOutcome labelCount) (listed ∷ (0x11 ∷ 7 ∷ []) ∷ eight ∷ [] ∷ (opening ++ (0x99 ∷ [])) ∷ (opening ++ (0x11 ∷ 0 ∷ [])) ∷ times 4097 (0 ∷ []) ∷ [])
     ≡ outcome.Yes 2 ∷ outcome.Yes 1 ∷ outcome.Yes 8 ∷ outcome.Refused 12 0 ∷ outcome.Refused 5 5 ∷ outcome.Refused 12 7 ∷ outcome.Refused 1 0 ∷ []
 unfolding times opening listed eight depthOutcome checkSheet overlongTest faultTest unjoinedTest countsOf faultPlace faultNumber isFaulty firstOf reading readFrom behind
     countFault counted effect noCounts readAt readCommand commandOf operandCount isCommand twoOperands oneOperand
-tells = refl
+depth-examples = refl

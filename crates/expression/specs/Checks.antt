@@ -107,7 +107,7 @@ checkSheet K s = let r = reading K s in firstOf (countsOf r) (overlongTest s ∷
 
 -- ---- 02, Item 8: what the depth asks
 
--- d: the most operands that the expression has at any moment
+-- d: the most operands (01: parts) that the expression has at any moment; 0 where a command is faulty
 unfoldable pub depthOf : ℕ → List ℕ → ℕ
 depthOf K s = countsOf (reading K s) .deepest
 

@@ -249,21 +249,21 @@ pub const ROOM: usize = 20000;
 // Mostly just the words needed; else one less, all there are, or some number.
 pub fn room(x: u64, need: usize) -> u64 {
     match x % 8 {
-        0 => least(less(need)),
+        0 => within_room(one_less(need)),
         1 => ROOM as u64,
         2 => x / 8 % 20000,
-        _ => least(need),
+        _ => within_room(need),
     }
 }
 
-fn least(n: usize) -> u64 {
+fn within_room(n: usize) -> u64 {
     if n > ROOM {
         return ROOM as u64;
     }
     n as u64
 }
 
-fn less(n: usize) -> usize {
+fn one_less(n: usize) -> usize {
     if n == 0 {
         return 0;
     }
