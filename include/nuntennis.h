@@ -123,7 +123,7 @@
  *   step: moved                the tables after the command    the state after the command
  *   any other                  unchanged                       unchanged
  *
- * Words of workspace past the first NEED are never read or written. Words of report are never read. depth is lent nothing but the answer.
+ * Words of workspace past the first NEED are never read or written. Words of report are never read. depth has neither.
  *
  *
  * TIME

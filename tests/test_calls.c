@@ -1,4 +1,4 @@
-// Decisions and reports with known answers: document 01's sheets to try, the order of its checks, the limits of a sheet, short buffers, rooms.
+// Decisions and reports with known answers: document 01's sheets to try, the order of the checks, the limits of a sheet, short buffers, rooms.
 #include "calls.h"
 
 #include <inttypes.h>
@@ -36,7 +36,7 @@ static const trial trials[] = {
     {"pin out on copy 1", LISTED, 32, 32, 0, 2, REFUSED(13, 8), REFUSED(13, 8)},
     {"CIRCLE", CIRCLE, 32, 32, 0, 0, YES(0), YES(0)},
     {"CIRCLE, copy 0 pinned in", CIRCLE, 32, 32, 1, 0, NO, YES(0)},
-    {"CIRCLE, copy 0 pinned in, the largest workspace", CIRCLE, 1024, 1024, 1, 0, NO, YES(0)},
+    {"CIRCLE, copy 0 pinned in, the widest limits", CIRCLE, 1024, 1024, 1, 0, NO, YES(0)},
     {"made unless kept", LISTED " 43 00 01", 32, 32, 0, 0, NO, YES(0)},
     {"either of two", EITHER, 32, 32, 0, 0, YES(2), YES(0)},
     {"both of two", EITHER, 32, 32, 3, 0, NO, YES(0)},
@@ -265,22 +265,24 @@ static size_t deep_sheet(uint8_t *sheet, unsigned parts)
     return n + parts - 1;
 }
 
-// A word less is refused by all calls; with no more than is needed, and with more, they answer. The report stops at the first command.
+// A word less is refused by decisions and reports; with no more than is needed, and with more, they answer. The reports stop at the first command.
 static unsigned try_room(oracle_request *r, size_t need)
 {
-    static const uint32_t leaf[] = {1, 1, 256, 256, 0};
+    static const uint32_t leaf[] = {1, 1, 256, 256, 0}, plain_leaf[] = {1, 256};
     const size_t rooms[] = {need, need + 1, NUNTENNIS_MOST_WORKSPACE_WORDS(r->plan_limit, r->subset_limit)};
     r->workspace_len = need - 1;
     expect_call(CALL_GROUNDED, r, (oracle_answer)REFUSED(3, 0), NULL);
     expect_call(CALL_PLAIN, r, (oracle_answer)REFUSED(3, 0), NULL);
     expect_report(CALL_REPORT, r, 0, 5, (oracle_answer)REFUSED(3, 0), NULL);
+    expect_report(CALL_PLAIN_REPORT, r, 0, 2, (oracle_answer)REFUSED(3, 0), NULL);
     for (size_t k = 0; k < 3; k++) {
         r->workspace_len = rooms[k];
         expect_call(CALL_GROUNDED, r, (oracle_answer)YES(0), NULL);
         expect_call(CALL_PLAIN, r, (oracle_answer)YES(0), NULL);
         expect_report(CALL_REPORT, r, 0, 5, (oracle_answer){1, 2, 5}, leaf);
+        expect_report(CALL_PLAIN_REPORT, r, 0, 2, (oracle_answer){1, 2, 2}, plain_leaf);
     }
-    return 12;
+    return 16;
 }
 
 // Too little room comes behind a fault of the sheet, and before pins.
