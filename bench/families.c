@@ -1,8 +1,6 @@
 // Sheets by family: each policy is written copy by copy, with the copies that later rules still name in groups of their own.
 #include "families.h"
 
-#include "nuntennis.h"
-
 #include <stdio.h>
 #include <stdlib.h>
 
@@ -265,7 +263,8 @@ static void rule_moves(instance **next, const char *family, unsigned rules, uint
 
 // ---- heavy joins: blocks over the same groups, so that each join meets as many pairs, with as many subsets, as the one before
 
-enum { GATHERED = 7, BLOCKS = 3 };
+// Eight of the ten groups: with them a block's tables come near the limits.
+enum { BLOCK_GROUPS = 8, GATHERED = BLOCK_GROUPS - 1, BLOCKS = 3 };
 
 // A copy with a rule of its own in the group given, which stays there; the copy is gathered with the others.
 static void copy_with_rule(instance *x, unsigned code, unsigned group)
@@ -291,11 +290,11 @@ static void block(instance *x, unsigned barring, unsigned needed, unsigned pinne
     for (unsigned k = 0; k < 3 * open; k++) copy(x, GATHERED - pinned - k / 3);
 }
 
-// A block has a rule in every group and, without an open group, 2 to the power of barring pairs. So has each join of blocks.
+// A block has a rule in each of its groups, and without an open group 2 to the power of barring pairs. So has each join of blocks.
 static void heavy(instance **next, const char *family, uint64_t limit, unsigned barring, unsigned open)
 {
     instance *x = begin(next, family, limit, limit);
-    unsigned needed = NUNTENNIS_GROUPS - barring, pinned = barring - 3, pins = needed + 2 * pinned;
+    unsigned needed = BLOCK_GROUPS - barring, pinned = barring - 3, pins = needed + 2 * pinned;
     for (unsigned k = 0; k < BLOCKS; k++) {
         block(x, barring, needed, pinned, open);
         if (k > 0) join(x);

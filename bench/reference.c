@@ -3,7 +3,7 @@
 
 #include "tables.h"
 
-enum { SHEET_BYTES = 4096, LABELS = 8, RULES = 256 };
+enum { SHEET_BYTES = 4096, RULES = 256 };
 
 enum { NO = 0, YES = 1, REFUSED = 2 };
 

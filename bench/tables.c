@@ -80,7 +80,7 @@ static unsigned push_atom(state *s, unsigned label)
     bool can_be_true = !(s->assumed_false & atom), can_be_false = !(s->assumed_true & atom);
     if ((size_t)can_be_true + can_be_false > s->pair_limit) return PLANS_FULL;
     table *t = &s->tables[s->depth++];
-    uint32_t in = 1u << label, out = 1u << (8 + label);
+    uint32_t in = 1u << label, out = 1u << (LABELS + label);
     t->count = 0;
     if (can_be_true) put_row(t, s->width, in, &out, (uint64_t)1 << (62 - s->atoms));
     if (can_be_false) put_row(t, s->width, out, NULL, 0);
@@ -92,7 +92,7 @@ static unsigned push_rule(state *s, unsigned label)
 {
     table *t = &s->tables[s->depth++];
     t->count = 0;
-    put_row(t, s->width, 1u << (16 + label), NULL, 0);
+    put_row(t, s->width, 1u << (2 * LABELS + label), NULL, 0);
     return 0;
 }
 
@@ -105,7 +105,7 @@ static size_t unite_with_whole(uint32_t *made, const uint32_t *a, uint32_t whole
 }
 
 // Adds the unions of a triple with each of some others. The number then made; limit + 1 where there are more.
-static size_t add_unions(filter *f, uint32_t stamp, uint32_t *made, size_t n, size_t limit, uint32_t q, const uint32_t *v, size_t m)
+static size_t add_unions(filter *f, uint64_t stamp, uint32_t *made, size_t n, size_t limit, uint32_t q, const uint32_t *v, size_t m)
 {
     for (size_t k = 0; k < m; k++) {
         if (!filter_add(f, stamp, q | v[k])) continue;
@@ -120,7 +120,7 @@ static size_t unite_subsets(filter *f, uint32_t *made, size_t limit, const uint3
 {
     if (b[1] == 0) return unite_with_whole(made, a, b[0]);
     if (a[1] == 0) return unite_with_whole(made, b, a[0]);
-    uint32_t stamp = filter_empty(f);
+    uint64_t stamp = filter_empty(f);
     size_t n = add_unions(f, stamp, made, 0, limit, a[0], b + 2, b[1]);
     if (n <= limit) n = add_unions(f, stamp, made, n, limit, b[0], a + 2, a[1]);
     for (uint32_t k = 0; k < a[1] && n <= limit; k++) n = add_unions(f, stamp, made, n, limit, a[2 + k], b + 2, b[1]);
@@ -175,7 +175,7 @@ static uint32_t marks_of(const command *c, uint32_t q, uint32_t unmet)
 {
     switch (c->code) {
     case HEAD: return unmet | 1u << c->i;
-    case POSITIVE: return unmet | 1u << (8 + c->i);
+    case POSITIVE: return unmet | 1u << (LABELS + c->i);
     default: return q >> c->i & 1 ? unmet : 0; // the reduct is by the interpretation itself
     }
 }
@@ -183,7 +183,7 @@ static uint32_t marks_of(const command *c, uint32_t q, uint32_t unmet)
 // What a relabel or connect makes of the interpretation's own triple.
 static uint32_t map_triple(const command *c, uint32_t q)
 {
-    uint32_t unmet = 1u << (16 + c->j), marks = 0;
+    uint32_t unmet = 1u << (2 * LABELS + c->j), marks = 0;
     if (c->code == RELABEL) relabel(&q, 1, c->i, c->j);
     else marks = marks_of(c, q, unmet);
     return marks != 0 && (q & marks) == marks ? q ^ unmet : q;
@@ -192,7 +192,7 @@ static uint32_t map_triple(const command *c, uint32_t q)
 // The subsets of a pair after a connect: whether any changed.
 static bool connect_subsets(const command *c, uint32_t q, uint32_t *row)
 {
-    uint32_t unmet = 1u << (16 + c->j), marks = marks_of(c, q, unmet);
+    uint32_t unmet = 1u << (2 * LABELS + c->j), marks = marks_of(c, q, unmet);
     if (marks == 0 || !has_marks(row + 2, row[1], marks)) return false;
     row[1] = (uint32_t)lose_mark(row + 2, row[1], marks, unmet);
     return true;
@@ -261,7 +261,7 @@ static unsigned push_plain_atom(state *s, unsigned label)
 static unsigned unite_plain(state *s)
 {
     table *a = &s->tables[s->depth - 2], *b = a + 1, *t = &s->tables[s->parts];
-    uint32_t stamp = filter_empty(&s->seen);
+    uint64_t stamp = filter_empty(&s->seen);
     t->count = 0;
     for (size_t k = 0; k < a->count; k++)
         for (size_t m = 0; m < b->count; m++) {
@@ -281,7 +281,7 @@ static unsigned map_plain(state *s, const command *c)
 {
     table *t = &s->tables[s->depth - 1];
     size_t count = t->count;
-    uint32_t stamp = filter_empty(&s->seen);
+    uint64_t stamp = filter_empty(&s->seen);
     t->count = 0;
     for (size_t k = 0; k < count; k++) {
         uint32_t q = map_triple(c, t->rows[k]);

@@ -23,7 +23,7 @@
  *
  * THE SHEET
  *
- * A policy comes as a sheet: at most 4096 bytes, one command byte each time, then operands of one byte. A group is 0 to 7. Command
+ * A policy comes as a sheet: at most 4096 bytes, one command byte each time, then operands of one byte. A group is 0 to 9. Command
  * bytes are hexadecimal here; every other number is decimal.
  *
  *     11 g      a new copy in group g; copies are numbered from 0 in the order in which they appear (at most 63)
@@ -86,7 +86,7 @@
  *    4  clash          a copy of the sheet is pinned in and out                0
  *    5  unknown        no such command byte                                    offset of that command
  *    6  cut            operands are missing                                    offset of that command
- *    7  group          an operand is over 7                                    offset of that command
+ *    7  group          an operand is over 9                                    offset of that command
  *    8  same           i equals j                                              offset of that command
  *    9  crowded        a 64th copy or a 257th rule                             offset of that command
  *   10  deep           a ninth part                                            offset of that command
@@ -179,7 +179,7 @@ extern "C" {
 #endif
 
 #define NUNTENNIS_SHEET_BYTES 4096  /* the longest sheet */
-#define NUNTENNIS_GROUPS 8
+#define NUNTENNIS_GROUPS 10         /* groups are 0 to 9 */
 #define NUNTENNIS_COPIES 63         /* the most copies of a sheet */
 #define NUNTENNIS_RULES 256         /* the most rules of a sheet */
 #define NUNTENNIS_PARTS 8           /* the most parts at a time */
@@ -281,7 +281,7 @@ uint64_t nuntennis_plain(const uint8_t *sheet, size_t sheet_len,
  * sheet is read and checked first; tables are built up to that command and no further. Pins bind the plans of the table, never their
  * smaller plans.
  *
- * A triple is three sets of groups as one number, T + 256*F + 65536*U, where group g counts 2^g in its set. T: groups with a copy in
+ * A triple is three sets of groups as one number, T + 1024*F + 1048576*U, where group g counts 2^g in its set. T: groups with a copy in
  * the plan. F: groups with a copy outside it. U: groups with an unmet rule. A pair is a triple Q of a plan, with the triples of its
  * smaller plans, its subsets. Equal pairs count once.
  *
@@ -290,7 +290,7 @@ uint64_t nuntennis_plain(const uint8_t *sheet, size_t sheet_len,
  *
  * nuntennis_plain_report writes the triples of the plain table, rising.
  *
- * For the sheet of the example above and asked = 5 (its link) the pair report is the five words 1 1 131328 131328 0, and the answer is
+ * For the sheet of the example above and asked = 5 (its link) the pair report is the five words 1 1 2098176 2098176 0, and the answer is
  * 1, 2 entries, 5 words.
  *
  *     static uint32_t report[NUNTENNIS_REPORT_WORDS(32, 32)];
@@ -333,7 +333,7 @@ uint64_t nuntennis_plain_report(const uint8_t *sheet, size_t sheet_len, size_t a
  *
  * nuntennis_step and nuntennis_verdict test this form (refusal 18), and only the form: the place is a command's start or the end; the
  * number of tables is what the commands before it leave; counts beyond that number are zero; each table has 1 to P pairs in strictly
- * rising report order, each with at most G strictly rising subsets, all triples under 2^24; every other needed word is zero. A command
+ * rising report order, each with at most G strictly rising subsets, all triples under 2^30; every other needed word is zero. A command
  * acts on the tables found.
  *
  * nuntennis_start     checks 1 to 13, zeroes the first (D+1)*P*(G+2) words, and makes a record at place 0 with no tables: moved.

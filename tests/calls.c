@@ -12,6 +12,8 @@
 #include <string.h>
 #include <unistd.h>
 
+_Static_assert(POLICY_GROUPS == NUNTENNIS_GROUPS, "the header's groups are document 02's");
+
 const char *case_name = "";
 uint64_t case_number;
 

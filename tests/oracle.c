@@ -106,7 +106,7 @@ static uint32_t triple_of(const policy *p, unsigned part, uint64_t x, uint64_t y
         if (p->rule_part[r] != part || (p->negative[r] & x) != 0) continue;
         if ((p->positive[r] & ~y) == 0 && (p->head[r] & y) == 0) u |= 1u << p->rule_label[r];
     }
-    return t + 256 * f + 65536 * u;
+    return t + 1024 * f + 1048576 * u;
 }
 
 static uint32_t *pair_of(const policy *p, unsigned part, uint64_t x)
@@ -143,10 +143,12 @@ oracle_table oracle_triples(const policy *p, unsigned part, uint64_t pins_in, ui
 
 // ---- tables by Definition 8
 
+enum { SETS = 1 << POLICY_GROUPS };
+
 // Q with label i replaced by j in each of its sets.
 static uint32_t relabelled(uint32_t q, unsigned i, unsigned j)
 {
-    for (unsigned set = 0; set < 24; set += 8)
+    for (unsigned set = 0; set < 3 * POLICY_GROUPS; set += POLICY_GROUPS)
         if (q >> (set + i) & 1) q = (q & ~(1u << (set + i))) | 1u << (set + j);
     return q;
 }
@@ -154,7 +156,7 @@ static uint32_t relabelled(uint32_t q, unsigned i, unsigned j)
 // Q without label j in U where label i is in the set S.
 static uint32_t connected(uint32_t q, uint32_t s, unsigned i, unsigned j)
 {
-    return s >> i & 1 ? q & ~(1u << (16 + j)) : q;
+    return s >> i & 1 ? q & ~(1u << (2 * POLICY_GROUPS + j)) : q;
 }
 
 // The triple r of a pair with triple q (r is q or one of its subsets) after a relabel or connect.
@@ -162,9 +164,9 @@ static uint32_t mapped(const policy_command *c, uint32_t q, uint32_t r)
 {
     switch (c->code) {
     case 0x31: return relabelled(r, c->i, c->j);
-    case 0x41: return connected(r, r & 255, c->i, c->j);
-    case 0x42: return connected(r, r >> 8 & 255, c->i, c->j);
-    default: return connected(r, q & 255, c->i, c->j);
+    case 0x41: return connected(r, r % SETS, c->i, c->j);
+    case 0x42: return connected(r, r / SETS % SETS, c->i, c->j);
+    default: return connected(r, q % SETS, c->i, c->j);
     }
 }
 
@@ -188,15 +190,15 @@ static uint32_t *united_row(const uint32_t *a, const uint32_t *b)
 static void add_leaf(row_list *list, const policy_command *c, unsigned atom, uint64_t pins_in, uint64_t pins_out)
 {
     if (c->code == 0x12) {
-        add_row(list, new_row(1u << (16 + c->i), 0));
+        add_row(list, new_row(1u << (2 * POLICY_GROUPS + c->i), 0));
         return;
     }
     if (!(pins_out >> atom & 1)) {
         uint32_t *row = new_row(1u << c->i, 1);
-        row[2 + row[1]++] = 1u << (8 + c->i);
+        row[2 + row[1]++] = 1u << (POLICY_GROUPS + c->i);
         add_row(list, row);
     }
-    if (!(pins_in >> atom & 1)) add_row(list, new_row(1u << (8 + c->i), 0));
+    if (!(pins_in >> atom & 1)) add_row(list, new_row(1u << (POLICY_GROUPS + c->i), 0));
 }
 
 oracle_table oracle_define(const policy_command *c, unsigned atom, uint64_t pins_in, uint64_t pins_out,
@@ -443,9 +445,9 @@ static bool is_zero(const uint32_t *words, size_t n)
 // Q, n, n subsets rising strictly, zeros.
 static bool is_pair(const uint32_t *row, uint64_t subset_limit)
 {
-    if (row[0] >= 1u << 24 || row[1] > subset_limit) return false;
+    if (row[0] >= 1u << 30 || row[1] > subset_limit) return false;
     for (uint32_t k = 0; k < row[1]; k++)
-        if (row[2 + k] >= 1u << 24 || (k > 0 && row[1 + k] >= row[2 + k])) return false;
+        if (row[2 + k] >= 1u << 30 || (k > 0 && row[1 + k] >= row[2 + k])) return false;
     return is_zero(row + 2 + row[1], subset_limit - row[1]);
 }
 

@@ -27,7 +27,7 @@ static bool is_fault(unsigned number, const uint8_t *sheet, size_t sheet_len, si
     switch (number) {
     case 5: return operands == NONE;
     case 6: return at + 1 + operands > sheet_len;
-    case 7: return (operands >= 1 && sheet[at + 1] > 7) || (operands == 2 && sheet[at + 2] > 7);
+    case 7: return (operands >= 1 && sheet[at + 1] >= POLICY_GROUPS) || (operands == 2 && sheet[at + 2] >= POLICY_GROUPS);
     case 8: return operands == 2 && sheet[at + 1] == sheet[at + 2];
     case 9: return (code == 0x11 && before->atoms == 63) || (code == 0x12 && before->rules == 256);
     case 10: return is_leaf(code) && before->parts == 8;

@@ -6,6 +6,9 @@
 #include <stddef.h>
 #include <stdint.h>
 
+// Groups are 0 to 9 (02, Item 12).
+enum { POLICY_GROUPS = 10 };
+
 typedef struct { unsigned code, i, j; size_t offset, next; } policy_command;
 
 // Atoms and rules of all parts; part 0 is the oldest.

@@ -1,6 +1,8 @@
 // Splitmix numbers; sheets that are valid by the way they are written.
 #include "random.h"
 
+#include "policy.h"
+
 #include <stdbool.h>
 #include <string.h>
 
@@ -107,7 +109,9 @@ size_t random_parts(random_source *r, uint8_t *sheet, unsigned atoms, unsigned r
     return w.length;
 }
 
-// ---- rule by rule: copies in groups below `labels`, the rule in hand in group 6, those done in group 7
+// ---- rule by rule: copies in groups below `labels`, the rule in hand in the last group but one, those done in the last
+
+enum { HAND = POLICY_GROUPS - 2, DONE = POLICY_GROUPS - 1 };
 
 size_t random_policy(random_source *r, uint8_t *sheet, unsigned atoms, unsigned rules, unsigned labels)
 {
@@ -117,13 +121,13 @@ size_t random_policy(random_source *r, uint8_t *sheet, unsigned atoms, unsigned 
         if (a > 0) put1(&w, 0x21);
     }
     for (unsigned k = 0; k < rules; k++) {
-        put2(&w, 0x12, 6);
+        put2(&w, 0x12, HAND);
         if (atoms > 0 || k > 0) put1(&w, 0x21);
         for (unsigned links = random_below(r, 5); links > 0; links--) {
             unsigned code = 0x41 + random_below(r, 3);
-            put3(&w, code, random_below(r, labels), 6);
+            put3(&w, code, random_below(r, labels), HAND);
         }
-        put3(&w, 0x31, 6, 7);
+        put3(&w, 0x31, HAND, DONE);
     }
     return w.length;
 }
@@ -150,8 +154,8 @@ static size_t add_command(random_source *r, uint8_t *sheet, size_t sheet_len, si
     static const uint8_t codes[] = {0x11, 0x12, 0x21, 0x31, 0x41, 0x42, 0x43};
     uint8_t bytes[3];
     bytes[0] = codes[random_below(r, sizeof codes)];
-    bytes[1] = (uint8_t)random_below(r, 8);
-    bytes[2] = (uint8_t)random_below(r, 8);
+    bytes[1] = (uint8_t)random_below(r, POLICY_GROUPS);
+    bytes[2] = (uint8_t)random_below(r, POLICY_GROUPS);
     bool is_leaf = bytes[0] < 0x21;
     unsigned times = is_leaf && random_below(r, 2) ? 9 : 1;
     for (; times > 0; times--) sheet_len = add_bytes(sheet, sheet_len, at, bytes, bytes[0] == 0x21 ? 1 : is_leaf ? 2 : 3);
@@ -160,7 +164,7 @@ static size_t add_command(random_source *r, uint8_t *sheet, size_t sheet_len, si
 
 static uint8_t random_byte(random_source *r)
 {
-    static const uint8_t usual[] = {0x11, 0x12, 0x21, 0x31, 0x41, 0x42, 0x43, 0x51, 0, 1, 2, 7, 8, 9};
+    static const uint8_t usual[] = {0x11, 0x12, 0x21, 0x31, 0x41, 0x42, 0x43, 0x51, 0, 1, 2, POLICY_GROUPS - 1, POLICY_GROUPS, 255};
     return random_below(r, 3) == 0 ? (uint8_t)random_next(r) : usual[random_below(r, sizeof usual)];
 }
 

@@ -16,7 +16,7 @@ uint64_t random_mask(random_source *r, unsigned bits, unsigned one_in);
 enum { RANDOM_SHEET_ROOM = 4200 };
 
 // A sheet without faults: so many copies and rules, in groups below `labels`
-// (2 to 8 for parts, 1 to 6 for a policy). Parts are joined and linked anyhow; a policy is written rule by rule.
+// (2 to all of them for parts, 1 to all but two for a policy). Parts are joined and linked anyhow; a policy is written rule by rule.
 size_t random_parts(random_source *r, uint8_t *sheet, unsigned atoms, unsigned rules, unsigned labels);
 size_t random_policy(random_source *r, uint8_t *sheet, unsigned atoms, unsigned rules, unsigned labels);
 

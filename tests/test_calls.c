@@ -43,8 +43,10 @@ static const trial trials[] = {
     {"a bare rule", "12 00", 32, 32, 0, 0, NO, NO},
     {"empty", "", 32, 32, 0, 0, REFUSED(12, 0), REFUSED(12, 0)},
     {"only a join", "21", 32, 32, 0, 0, REFUSED(11, 0), REFUSED(11, 0)},
-    {"group 7", "11 07", 32, 32, 0, 0, YES(0), YES(0)},
-    {"group 8", "11 08", 32, 32, 0, 0, REFUSED(7, 0), REFUSED(7, 0)},
+    {"group 8", "11 08", 32, 32, 0, 0, YES(0), YES(0)},
+    {"group 9", "11 09", 32, 32, 0, 0, YES(0), YES(0)},
+    {"group 10", "11 0A", 32, 32, 0, 0, REFUSED(7, 0), REFUSED(7, 0)},
+    {"group 255", "12 FF", 32, 32, 0, 0, REFUSED(7, 0), REFUSED(7, 0)},
     {"cut", "41 00", 32, 32, 0, 0, REFUSED(6, 0), REFUSED(6, 0)},
     {"same", "41 00 00", 32, 32, 0, 0, REFUSED(8, 0), REFUSED(8, 0)},
     {"P = 1", "11 00", 1, 32, 0, 0, REFUSED(16, 0), REFUSED(16, 0)},
@@ -66,8 +68,8 @@ static const trial trials[] = {
     {"one of three, copy 0 pinned in", THREE, 32, 32, 1, 0, YES(1), YES(0)},
     // the order of the checks
     {"operands missing before a group", "41 08", 32, 32, 0, 0, REFUSED(6, 0), REFUSED(6, 0)},
-    {"a group before same", "41 08 08", 32, 32, 0, 0, REFUSED(7, 0), REFUSED(7, 0)},
-    {"a second group", "11 00 31 00 08", 32, 32, 0, 0, REFUSED(7, 2), REFUSED(7, 2)},
+    {"a group before same", "41 0A 0A", 32, 32, 0, 0, REFUSED(7, 0), REFUSED(7, 0)},
+    {"a second group", "11 00 31 00 0A", 32, 32, 0, 0, REFUSED(7, 2), REFUSED(7, 2)},
     {"same before bare", "31 03 03", 32, 32, 0, 0, REFUSED(8, 0), REFUSED(8, 0)},
     {"a link on nothing", "41 00 01", 32, 32, 0, 0, REFUSED(11, 0), REFUSED(11, 0)},
     {"a move on nothing", "31 00 01", 32, 32, 0, 0, REFUSED(11, 0), REFUSED(11, 0)},
@@ -154,8 +156,8 @@ static void expect_report(call c, oracle_request *r, size_t asked, size_t report
 
 static void try_listed_reports(void)
 {
-    static const uint32_t last[] = {1, 1, 131328, 131328, 0}, leaf[] = {1, 1, 256, 256, 0}, rule[] = {131072, 0};
-    static const uint32_t plain[] = {1, 131328};
+    static const uint32_t last[] = {1, 1, 2098176, 2098176, 0}, leaf[] = {1, 1, 1024, 1024, 0}, rule[] = {2097152, 0};
+    static const uint32_t plain[] = {1, 2098176};
     uint8_t sheet[16];
     oracle_request r = {sheet, read_hex(LISTED, sheet), 32, 32, 0, 0, 0, 0, 0, 3};
     r.workspace_len = need_of(&r);
@@ -268,7 +270,7 @@ static size_t deep_sheet(uint8_t *sheet, unsigned parts)
 // A word less is refused by decisions and reports; with no more than is needed, and with more, they answer. The reports stop at the first command.
 static unsigned try_room(oracle_request *r, size_t need)
 {
-    static const uint32_t leaf[] = {1, 1, 256, 256, 0}, plain_leaf[] = {1, 256};
+    static const uint32_t leaf[] = {1, 1, 1024, 1024, 0}, plain_leaf[] = {1, 1024};
     const size_t rooms[] = {need, need + 1, NUNTENNIS_MOST_WORKSPACE_WORDS(r->plan_limit, r->subset_limit)};
     r->workspace_len = need - 1;
     expect_call(CALL_GROUNDED, r, (oracle_answer)REFUSED(3, 0), NULL);

@@ -46,20 +46,20 @@ printf '\021\000\022\001\041\101\000\001' | list
 expect 'the listed sheet' 'answer 1 1 0
 plain 1 0 0
 table 2
-1 1 131328
-131328 0
+1 1 2098176
+2098176 0
 ' ''
 
-{ printf '\021'; sleep 0.2; printf '\007'; } | list
-expect '11 07, a byte at a time' 'answer 1 0 0
+{ printf '\021'; sleep 0.2; printf '\011'; } | list
+expect '11 09, a byte at a time' 'answer 1 0 0
 plain 1 0 0
 table 2
-128 1 32768
-32768 0
+512 1 524288
+524288 0
 ' ''
 
-printf '\021\010' | list
-expect '11 08' 'answer 2 7 0
+printf '\021\012' | list
+expect '11 0A' 'answer 2 7 0
 plain 2 7 0
 ' ''
 

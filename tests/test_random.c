@@ -32,8 +32,8 @@ static size_t random_sheet(random_source *s, uint8_t *sheet)
 {
     unsigned atoms = random_below(s, 12) == 0 ? 7 + random_below(s, 3) : random_below(s, 7), rules = random_below(s, 7);
     if (atoms + rules == 0) return 0;
-    size_t n = random_below(s, 2) ? random_parts(s, sheet, atoms, rules, 2 + random_below(s, 7))
-                                  : random_policy(s, sheet, atoms, rules, 1 + random_below(s, 6));
+    size_t n = random_below(s, 2) ? random_parts(s, sheet, atoms, rules, 2 + random_below(s, POLICY_GROUPS - 1))
+                                  : random_policy(s, sheet, atoms, rules, 1 + random_below(s, POLICY_GROUPS - 2));
     return random_below(s, 4) == 0 ? random_damage(s, sheet, n) : n;
 }
 

@@ -99,9 +99,9 @@ static oracle_answer step_due(walk *w, const oracle_request *r)
 static bool is_yes(const oracle_table *t)
 {
     for (const uint32_t *pair = t->words; pair < t->words + t->length; pair += pair[1] + 2) {
-        bool is_accepting = pair[0] < 65536;
+        bool is_accepting = pair[0] < 1u << 2 * POLICY_GROUPS;
         for (uint32_t k = 0; k < pair[1]; k++)
-            if (pair[2 + k] < 65536) is_accepting = false;
+            if (pair[2 + k] < 1u << 2 * POLICY_GROUPS) is_accepting = false;
         if (is_accepting) return true;
     }
     return false;
@@ -255,7 +255,8 @@ static uint64_t random_word(random_source *s, uint64_t now)
 static void random_table(random_source *s, const oracle_request *r, uint32_t *area, uint64_t *count)
 {
     size_t width = r->subset_limit + 2;
-    uint32_t marks = random_below(s, 2) ? 0x070707 : 0xFFFFFF, q = 0;
+    uint32_t groups = random_below(s, 2) ? 7 : (1u << POLICY_GROUPS) - 1, q = 0;
+    uint32_t marks = groups * (1u + (1u << POLICY_GROUPS) + (1u << 2 * POLICY_GROUPS));
     *count = 1 + random_below(s, (unsigned)(r->plan_limit < 6 ? r->plan_limit : 6));
     memset(area, 0, 4 * width * r->plan_limit);
     for (uint64_t k = 0; k < *count; k++) {
@@ -419,8 +420,8 @@ static void try_walk(random_source *s, tally *n)
     uint8_t sheet[RANDOM_SHEET_ROOM];
     unsigned atoms = random_below(s, 6), rules = random_below(s, 5) + (atoms == 0);
     oracle_request r = {sheet, 0, 1024, 1024, 0, 0, SIZE_MAX, 0, 0, 3 + random_below(s, 2)};
-    r.sheet_len = random_below(s, 2) ? random_parts(s, sheet, atoms, rules, 2 + random_below(s, 7))
-                                     : random_policy(s, sheet, atoms, rules, 1 + random_below(s, 6));
+    r.sheet_len = random_below(s, 2) ? random_parts(s, sheet, atoms, rules, 2 + random_below(s, POLICY_GROUPS - 1))
+                                     : random_policy(s, sheet, atoms, rules, 1 + random_below(s, POLICY_GROUPS - 2));
     if (random_below(s, 3) == 0) r.pins_in = random_mask(s, atoms, 4);
     if (random_below(s, 3) == 0) r.pins_out = random_mask(s, atoms, 4) & ~r.pins_in;
     oracle_history h = oracle_walk(r.sheet, r.sheet_len, r.pins_in, r.pins_out);

@@ -2,15 +2,15 @@
 use mathlib.Core.Path.{_≡_, refl, ap, _∙_}
 use mathlib.Core.Bool.{Bool, true, false, cond}
 use mathlib.Core.List.{List, [], _∷_, map}
-use Prim.Native.Nat.{ℕ, zero, suc, _+_, _*_, _/_, _%_, _^_, _<_}
-use native.Mathlib.Nat.{one-mul, mod-lt, not-suc-le-zero, le-of-suc-le-suc}
+use Prim.Native.Nat.{ℕ, zero, suc, _+_, _*_, _/_, _%_, _^_, _≤_, _<_}
+use native.Mathlib.Nat.{zero-mul, one-mul, mod-lt, not-suc-le-zero, le-of-suc-le-suc}
 use native.Mathlib.Omega.{arith}
 use lib.Bits.{bitOr}
+use lib.Arith.{digits-div, digits-mod}
 use lib.Pow.{shl-exact}
 use lib.Dec.{eqb}
 use borrow.Author.Tests.{eq-eqb, ne-eqb}
 use lib.ListN.{length, getD}
-use Rattle.labels.specs.Labels.{labelCount}
 use Rattle.expression.specs.declared.Kind.{Kind}
 use Rattle.expression.specs.declared.Kind.the-variants.{Head, Positive, Negative}
 use Rattle.expression.specs.declared.Command.{Command}
@@ -72,33 +72,30 @@ module _ (K w : ℕ) where
         is-negative e = rw (ne-eqb form 0 a, ne-eqb form 1 b, ne-eqb form 2 d, ne-eqb form 3 e)
 
 -- the word of a form and two labels
-pub word-is : (f i j w : ℕ) → i < labelCount → j < labelCount → w ≡ (f * labelCount + i) * labelCount + j → commandOf labelCount w ≡ formed f i j
+pub word-is : (K f i j w : ℕ) → i < K → j < K → w ≡ (f * K + i) * K + j → commandOf K w ≡ formed f i j
 unfolding commandOf
-word-is f i j w a b e =
-    let x : w / labelCount / labelCount ≡ f = omega arith in
-    let y : w / labelCount % labelCount ≡ i = omega arith in
-    let z : w % labelCount ≡ j = omega arith in rw (x, y, z)
+word-is K f i j w a b e = rw (e, digits-div (f * K + i) b, digits-mod (f * K + i) b, digits-div f a, digits-mod f a)
 
-module _ (i j w : ℕ) (a : i < labelCount) (b : j < labelCount) where
-  pub head-word : w ≡ (2 * labelCount + i) * labelCount + j → commandOf labelCount w ≡ Connect Head i j
+module _ (K i j w : ℕ) (a : i < K) (b : j < K) where
+  pub head-word : w ≡ (2 * K + i) * K + j → commandOf K w ≡ Connect Head i j
   unfolding formed
-  head-word e = word-is 2 i j w a b e
+  head-word e = word-is K 2 i j w a b e
 
-  pub positive-word : w ≡ (3 * labelCount + i) * labelCount + j → commandOf labelCount w ≡ Connect Positive i j
+  pub positive-word : w ≡ (3 * K + i) * K + j → commandOf K w ≡ Connect Positive i j
   unfolding formed
-  positive-word e = word-is 3 i j w a b e
+  positive-word e = word-is K 3 i j w a b e
 
-  pub negative-word : w ≡ (4 * labelCount + i) * labelCount + j → commandOf labelCount w ≡ Connect Negative i j
+  pub negative-word : w ≡ (4 * K + i) * K + j → commandOf K w ≡ Connect Negative i j
   unfolding formed
-  negative-word e = word-is 4 i j w a b e
+  negative-word e = word-is K 4 i j w a b e
 
-  pub relabel-word : w ≡ (1 * labelCount + i) * labelCount + j → commandOf labelCount w ≡ Relabel i j
+  pub relabel-word : w ≡ (1 * K + i) * K + j → commandOf K w ≡ Relabel i j
   unfolding formed
-  relabel-word e = word-is 1 i j w a b e
+  relabel-word e = word-is K 1 i j w a b e
 
-pub rule-word : (g : ℕ) → g < labelCount → commandOf labelCount g ≡ Rule g
+pub rule-word : (K g : ℕ) → g < K → commandOf K g ≡ Rule g
 unfolding formed
-rule-word g b = word-is 0 0 g g (omega arith) b (omega arith)
+rule-word K g b = word-is K 0 0 g g (omega (arith, b)) b (rw (zero-mul K) (omega arith))
 
 -- what no batch has
 module _ {c : Command} where
@@ -136,14 +133,14 @@ module _ (K : ℕ) (c : Command) where
   unfolding stepTriple
   union-steps q r e = rw e
 
--- one mark in a word
-pub mark-is : (n : ℕ) → n < 32 → (1 * 2 ^ n) % 2 ^ 32 ≡ 2 ^ n
-mark-is n l = shl-exact 1 n 32 (omega arith) (omega arith) ∙ one-mul (2 ^ n)
+-- one mark in a word of w digits
+pub mark-is : (n w : ℕ) → n < w → (1 * 2 ^ n) % 2 ^ w ≡ 2 ^ n
+mark-is n w l = shl-exact 1 n w (omega arith) (omega arith) ∙ one-mul (2 ^ n)
 
--- the mark of a rule in a word
-pub marked : (r g : ℕ) → g < labelCount → bitOr r ((1 * 2 ^ (2 * labelCount + g)) % 2 ^ 32) ≡ bitOr r (markU labelCount g)
+-- the mark of a rule in a word of w digits
+pub marked : (K w r g : ℕ) → 3 * K ≤ w → g < K → bitOr r ((1 * 2 ^ (2 * K + g)) % 2 ^ w) ≡ bitOr r (markU K g)
 unfolding markU
-marked r g l = ap (bitOr r) (mark-is (2 * labelCount + g) (omega arith))
+marked K w r g h l = ap (bitOr r) (mark-is (2 * K + g) w (omega arith))
 
 -- a list mapped, place by place
 pub map-read : (f : ℕ → ℕ) (l : List ℕ) (i : ℕ) → i < length l → getD (map f l) i 0 ≡ f (getD l i 0)

@@ -3,6 +3,7 @@ use mathlib.Core.Path.{_≡_, refl, sym, ap, ap₂, _∙_}
 use mathlib.Core.Bool.{Bool, true, false, cond, not, _&&_, _||_, or-true}
 use mathlib.Core.List.{List, [], _∷_, map}
 use Prim.Native.Nat.{ℕ, zero, suc, _+_, _-_, _*_, _%_, _^_, _≤_, _<_}
+use native.Mathlib.Nat.{zero-mul, zero-mod}
 use native.Mathlib.Omega.{arith}
 use native.Mathlib.Numerals.{add-one}
 use lib.Bits.{bitOr, and-le-r, or-add-and, or-zero-r}
@@ -11,7 +12,6 @@ use mir.Val.{boolByte}
 use borrow.Author.Tests.{eq-eqb, ne-eqb, lt-ltb, le-ltb}
 use lib.ListN.{length, drop, getD, drop-of-length-le}
 use lib.Seq.{drop-cons}
-use Rattle.labels.specs.Labels.{labelCount}
 use Rattle.labels.specs.Sets.{has, without}
 use Rattle.labels.proofs.Sets.{has-le, has-or, has-pow, has-without, set-ext}
 use Rattle.expression.specs.declared.Command.{Command}
@@ -45,8 +45,8 @@ taken-out u r = go (with-has u r) ∙ without-or u r
     go : has u (bitOr r (2 ^ u)) ≡ true → bitOr r (2 ^ u) - 2 ^ u ≡ without u (bitOr r (2 ^ u))
     go e = rw e
 
-pub mark-within : (g r : ℕ) → 2 ^ (2 * labelCount + g) ≤ bitOr r (2 ^ (2 * labelCount + g))
-mark-within g r = has-le (2 * labelCount + g) (bitOr r (2 ^ (2 * labelCount + g))) (with-has (2 * labelCount + g) r)
+pub mark-within : (u r : ℕ) → 2 ^ u ≤ bitOr r (2 ^ u)
+mark-within u r = has-le u (bitOr r (2 ^ u)) (with-has u r)
 
 -- put in, whether it was there or not
 or-without : (u r : ℕ) → bitOr (without u r) (2 ^ u) ≡ bitOr r (2 ^ u)
@@ -63,10 +63,10 @@ pub or-none : (a b : ℕ) → not (eqb (bitOr a b) 0) ≡ (not (eqb a 0) || not 
 or-none zero b = refl
 or-none (suc a) b = rw (ne-eqb (bitOr (suc a) b) 0 (λ e. omega (arith, or-add-and (suc a) b, and-le-r (suc a) b, e)), eqb·suc-zero a)
 
--- the mark of a rule in a word, unless it is met
-pub unmet-marked : (b : Bool) (r g : ℕ) → g < labelCount → bitOr r ((boolByte (not b) * 2 ^ (2 * labelCount + g)) % 2 ^ 32) ≡ cond b r (bitOr r (markU labelCount g))
-unmet-marked true r g l = let e : (0 * 2 ^ (2 * labelCount + g)) % 2 ^ 32 ≡ 0 = omega arith in ap (bitOr r) e ∙ or-zero-r r
-unmet-marked false r g l = marked r g l
+-- the mark of a rule in a word of w digits, unless it is met
+pub unmet-marked : (K w r g : ℕ) (b : Bool) → 3 * K ≤ w → g < K → bitOr r ((boolByte (not b) * 2 ^ (2 * K + g)) % 2 ^ w) ≡ cond b r (bitOr r (markU K g))
+unmet-marked K w r g true h l = ap (bitOr r) (ap (λ (x : ℕ). x % 2 ^ w) (zero-mul (2 ^ (2 * K + g))) ∙ zero-mod (2 ^ w)) ∙ or-zero-r r
+unmet-marked K w r g false h l = marked K w r g h l
 
 -- taken out, then put in unless the rule is met
 pub mark-settled : (K g h q r : ℕ) (b : Bool) (x y z : ℕ) → x ≡ without (2 * K + g) r → y ≡ cond b x (bitOr x (markU K g)) → z ≡ mapTriple K (Relabel g h) q y → z ≡ settled K g h b r
@@ -93,41 +93,41 @@ suits-relabel K i j a b = (a, b)
 -- ---- words
 
 -- what a word makes of a triple, by its size
-module _ (w q r : ℕ) where
-  pub by-command : w < judgesFrom labelCount → wordTriple labelCount w q r ≡ stepTriple labelCount (commandOf labelCount w) q r
+module _ (K w q r : ℕ) where
+  pub by-command : w < judgesFrom K → wordTriple K w q r ≡ stepTriple K (commandOf K w) q r
   unfolding wordTriple
-  by-command l = rw (lt-ltb w (judgesFrom labelCount) l)
+  by-command l = rw (lt-ltb w (judgesFrom K) l)
 
-  pub by-judge : judgesFrom labelCount ≤ w → wordTriple labelCount w q r ≡ judgeTriple labelCount (judgeOf labelCount w) q r
+  pub by-judge : judgesFrom K ≤ w → wordTriple K w q r ≡ judgeTriple K (judgeOf K w) q r
   unfolding wordTriple
-  by-judge l = rw (le-ltb w (judgesFrom labelCount) l)
+  by-judge l = rw (le-ltb w (judgesFrom K) l)
 
-module _ (w q r z : ℕ) where
-  pub command-made : (c : Command) → c ≡ commandOf labelCount w → z ≡ stepTriple labelCount c q r → w < judgesFrom labelCount → z ≡ wordTriple labelCount w q r
-  command-made c e f l = f ∙ ap (λ (d : Command). stepTriple labelCount d q r) e ∙ sym (by-command w q r l)
+module _ (K w q r z : ℕ) where
+  pub command-made : (c : Command) → c ≡ commandOf K w → z ≡ stepTriple K c q r → w < judgesFrom K → z ≡ wordTriple K w q r
+  command-made c e f l = f ∙ ap (λ (d : Command). stepTriple K d q r) e ∙ sym (by-command K w q r l)
 
-  pub judge-made : (j : Judge) → j ≡ judgeOf labelCount w → z ≡ judgeTriple labelCount j q r → judgesFrom labelCount ≤ w → z ≡ wordTriple labelCount w q r
-  judge-made j e f l = f ∙ ap (λ (d : Judge). judgeTriple labelCount d q r) e ∙ sym (by-judge w q r l)
+  pub judge-made : (j : Judge) → j ≡ judgeOf K w → z ≡ judgeTriple K j q r → judgesFrom K ≤ w → z ≡ wordTriple K w q r
+  judge-made j e f l = f ∙ ap (λ (d : Judge). judgeTriple K d q r) e ∙ sym (by-judge K w q r l)
 
 pub map-same : (f g : ℕ → ℕ) → ((r : ℕ) → f r ≡ g r) → (l : List ℕ) → map f l ≡ map g l
 map-same f g e [] = refl
 map-same f g e (x ∷ l) = ap₂ {C = List ℕ} (λ y m. y ∷ m) (e x) (map-same f g e l)
 
-module _ (w q : ℕ) (l : List ℕ) where
-  pub commands-made : (c : Command) → c ≡ commandOf labelCount w → w < judgesFrom labelCount → map (stepTriple labelCount c q) l ≡ map (wordTriple labelCount w q) l
-  commands-made c e k = map-same (stepTriple labelCount c q) (wordTriple labelCount w q) (λ r. command-made w q r (stepTriple labelCount c q r) c e refl k) l
+module _ (K w q : ℕ) (l : List ℕ) where
+  pub commands-made : (c : Command) → c ≡ commandOf K w → w < judgesFrom K → map (stepTriple K c q) l ≡ map (wordTriple K w q) l
+  commands-made c e k = map-same (stepTriple K c q) (wordTriple K w q) (λ r. command-made K w q r (stepTriple K c q r) c e refl k) l
 
-  pub judges-made : (j : Judge) → j ≡ judgeOf labelCount w → judgesFrom labelCount ≤ w → map (judgeTriple labelCount j q) l ≡ map (wordTriple labelCount w q) l
-  judges-made j e k = map-same (judgeTriple labelCount j q) (wordTriple labelCount w q) (λ r. judge-made w q r (judgeTriple labelCount j q r) j e refl k) l
+  pub judges-made : (j : Judge) → j ≡ judgeOf K w → judgesFrom K ≤ w → map (judgeTriple K j q) l ≡ map (wordTriple K w q) l
+  judges-made j e k = map-same (judgeTriple K j q) (wordTriple K w q) (λ r. judge-made K w q r (judgeTriple K j q r) j e refl k) l
 
 -- the next word of those left
-pub next-word : (goal code : List ℕ) (k : ℕ) → k < length code → (own : ℕ) (run : List ℕ) → wordSteps labelCount (drop k code) (own ∷ run) ≡ goal
-    → (own' : ℕ) (run' : List ℕ) → own' ≡ wordTriple labelCount (getD code k 0) own own → run' ≡ map (wordTriple labelCount (getD code k 0) own) run
-    → wordSteps labelCount (drop (k + 1) code) (own' ∷ run') ≡ goal
+pub next-word : (K : ℕ) (goal code : List ℕ) (k : ℕ) → k < length code → (own : ℕ) (run : List ℕ) → wordSteps K (drop k code) (own ∷ run) ≡ goal
+    → (own' : ℕ) (run' : List ℕ) → own' ≡ wordTriple K (getD code k 0) own own → run' ≡ map (wordTriple K (getD code k 0) own) run
+    → wordSteps K (drop (k + 1) code) (own' ∷ run') ≡ goal
 unfolding wordSteps wordStep
-next-word goal code k l own run h own' run' eo er = rw (eo, er, add-one k) (rw (drop-cons code k 0 l) at h)
+next-word K goal code k l own run h own' run' eo er = rw (eo, er, add-one k) (rw (drop-cons code k 0 l) at h)
 
 -- none is left
-pub no-words : (code : List ℕ) (k : ℕ) → length code ≤ k → (x goal : List ℕ) → wordSteps labelCount (drop k code) x ≡ goal → x ≡ goal
+pub no-words : (K : ℕ) (code : List ℕ) (k : ℕ) → length code ≤ k → (x goal : List ℕ) → wordSteps K (drop k code) x ≡ goal → x ≡ goal
 unfolding wordSteps
-no-words code k l x goal h = rw (drop-of-length-le code {i = k} l) at h
+no-words K code k l x goal h = rw (drop-of-length-le code {i = k} l) at h

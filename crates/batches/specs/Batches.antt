@@ -104,7 +104,7 @@ module _ (K : ℕ) where
     negative = w / 2 ^ (2 * K) % 2 ^ K;
     label = w / 2 ^ (3 * K) % K;
     after = w / 2 ^ (3 * K) / K % K;
-    leaves = w / (2 * judgesFrom);
+    leaves = w / 2 ^ (3 * K) / K / K / 2 % 2;
   }
 
   -- what a word makes of a triple: it is that of a rule judged at once, or stands for a command

@@ -16,23 +16,25 @@ ghost use Rattle.tables.specs.Triples.{markU};
 ghost use Rattle.candidates.specs.Candidates.{pairOf, Readable};
 ghost use Rattle.batches.specs.Batches.{Joins, commandOf, stepTriple, isMet, Fits, settled, judgeOf, judgeTriple, wordTriple, wordSteps, wordsPair};
 
-// labels::LABELS at the width of a word.
+// labels::LABELS at the width of a triple, and at that of a word of code.
 const LABELS: u32 = labels::LABELS as u32;
+
+const BASE: u64 = labels::LABELS as u64;
 
 // How many words a batch has at most.
 pub const BATCH_LIMIT: usize = 64;
 
+// How many sets of labels there are.
+const SETS: u64 = 1 << LABELS;
+
 // Where the labels of negative atoms begin in the word of a rule judged at once.
-pub const NEGATIVES: u32 = 1 << (2 * LABELS);
+pub const NEGATIVES: u64 = 1 << (2 * LABELS);
 
 // Where its own labels begin.
-pub const RULES: u32 = 1 << (3 * LABELS);
+pub const RULES: u64 = 1 << (3 * LABELS);
 
 // The first such word.
-pub const JUDGES: u32 = LABELS * LABELS * RULES;
-
-// The first one of a rule that leaves what has its label.
-const LEAVING: u32 = 2 * JUDGES;
+pub const JUDGES: u64 = BASE * BASE * RULES;
 
 // A rule with atoms put into it, judged at once: the marks of a triple that meet it, the labels of negative atoms, which meet it by the interpretation's
 // own T; its label, and the one it is given then. Where `leaves` is 1 what has its label is left to a later word.
@@ -51,12 +53,12 @@ pub struct Left {
 }
 
 // The command that a word stands for.
-pub fn command_of(w: u32) -> Command
+pub fn command_of(w: u64) -> Command
     ensures { λ c. ⌜ c ≡ commandOf labelCount w ⌝ }
 {
-    let j = w % LABELS;
-    let i = w / LABELS % LABELS;
-    let f = w / LABELS / LABELS;
+    let j = (w % BASE) as u32;
+    let i = (w / BASE % BASE) as u32;
+    let f = w / BASE / BASE;
     if f == 0 {
         return Command::Rule(j);
     }
@@ -135,15 +137,15 @@ fn step_words(run: &mut [u32], c: Command, q: u32)
 }
 
 // The rule that a word stands for.
-pub fn judge_of(w: u32) -> Judge
+pub fn judge_of(w: u64) -> Judge
     ensures { λ j. ⌜ (j ≡ judgeOf labelCount w) × Fits labelCount j ⌝ }
 {
     Judge {
-        marks: w % NEGATIVES,
-        negative: w / NEGATIVES % (1 << LABELS),
-        label: w / RULES % LABELS,
-        after: w / RULES / LABELS % LABELS,
-        leaves: w / LEAVING,
+        marks: (w % NEGATIVES) as u32,
+        negative: (w / NEGATIVES % SETS) as u32,
+        label: (w / RULES % BASE) as u32,
+        after: (w / RULES / BASE % BASE) as u32,
+        leaves: (w / RULES / BASE / BASE / 2 % 2) as u32,
     }
 }
 
@@ -207,7 +209,7 @@ fn judge_words(run: &mut [u32], j: Judge, q: u32)
 }
 
 // What a word makes of a triple r, where q is the interpretation's own.
-fn word_triple(w: u32, q: u32, r: u32) -> u32
+fn word_triple(w: u64, q: u32, r: u32) -> u32
     ensures { λ s. ⌜ s ≡ wordTriple labelCount w q r ⌝ }
 {
     if w < JUDGES {
@@ -217,7 +219,7 @@ fn word_triple(w: u32, q: u32, r: u32) -> u32
 }
 
 // Each triple as the word makes it.
-fn word_all(run: &mut [u32], w: u32, q: u32)
+fn word_all(run: &mut [u32], w: u64, q: u32)
     ensures { λ _. ⌜ now (run .exit) ≡ map (wordTriple labelCount w q) (now (run .entry)) ⌝ }
 {
     if w < JUDGES {
@@ -228,7 +230,7 @@ fn word_all(run: &mut [u32], w: u32, q: u32)
 }
 
 // Each triple, and the interpretation's own, as all words make them. The answer is the own one.
-fn step_all(run: &mut [u32], q: u32, code: &[u32]) -> u32
+fn step_all(run: &mut [u32], q: u32, code: &[u64]) -> u32
     ensures { λ r. ⌜ r ∷ now (run .exit) ≡ wordSteps labelCount (now (code .entry)) (q ∷ now (run .entry)) ⌝ }
 {
     let mut own = q;
@@ -243,7 +245,7 @@ fn step_all(run: &mut [u32], q: u32, code: &[u32]) -> u32
 }
 
 // The subsets that the words make of src, where q is the interpretation's own triple. There are no more than before, so each finds room.
-fn batch_subsets(run: &mut [u32], src: &[u32], q: u32, code: &[u32]) -> Left
+fn batch_subsets(run: &mut [u32], src: &[u32], q: u32, code: &[u64]) -> Left
     requires { ⌜ length (now src) ≤ length (now run) ⌝ }
     ensures { λ r. ⌜ (r .count ≤ length (now (src .entry))) × (r .own ∷ take (r .count) (now (run .exit)) ≡ wordsPair labelCount (now (code .entry)) (q ∷ now (src .entry))) ⌝ }
 {
@@ -255,7 +257,7 @@ fn batch_subsets(run: &mut [u32], src: &[u32], q: u32, code: &[u32]) -> Left
 }
 
 // The row that the words make of the row src. The answer is how many subsets it has. What stands behind them is left.
-pub fn batch_row(row: &mut [u32], src: &[u32], code: &[u32]) -> usize
+pub fn batch_row(row: &mut [u32], src: &[u32], code: &[u64]) -> usize
     requires { ⌜ Readable (now src) ⌝ }
     requires { ⌜ (length (now src) ≤ length (now row)) × (length (now row) ≤ 4096) ⌝ }
     ensures { λ r. ⌜ (r ≡ getD (now (row .exit)) 1 0) × (2 + r ≤ length (now (row .exit))) × (pairOf (now (row .exit)) ≡ wordsPair labelCount (now (code .entry)) (pairOf (now (src .entry)))) ⌝ }

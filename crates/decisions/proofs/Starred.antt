@@ -73,8 +73,10 @@ rows =
     ∷ row (0x12 ∷ 0 ∷ []) 32 32 0 0 No No
     ∷ row [] 32 32 0 0 (Refused 12 0) (Refused 12 0)
     ∷ row (0x21 ∷ []) 32 32 0 0 (Refused 11 0) (Refused 11 0)
-    ∷ row (0x11 ∷ 7 ∷ []) 32 32 0 0 (Yes 0) (Yes 0)
-    ∷ row (0x11 ∷ 8 ∷ []) 32 32 0 0 (Refused 7 0) (Refused 7 0)
+    -- 02, Item 12: labels are 0 to 9
+    ∷ row (0x11 ∷ 8 ∷ []) 32 32 0 0 (Yes 0) (Yes 0)
+    ∷ row (0x11 ∷ 9 ∷ []) 32 32 0 0 (Yes 0) (Yes 0)
+    ∷ row (0x11 ∷ 10 ∷ []) 32 32 0 0 (Refused 7 0) (Refused 7 0)
     ∷ row (0x41 ∷ 0 ∷ []) 32 32 0 0 (Refused 6 0) (Refused 6 0)
     ∷ row (0x41 ∷ 0 ∷ 0 ∷ []) 32 32 0 0 (Refused 8 0) (Refused 8 0)
     ∷ row (0x11 ∷ 0 ∷ []) 1 32 0 0 (Refused 16 0) (Refused 16 0)
@@ -147,16 +149,10 @@ module _ (P room : ℕ) (low : 2 ≤ P) (high : P ≤ tableLimit) (fits : worksp
       few (suc (suc zero)) l = ap (λ b. cond b 16 0) (le-ltb P 3 three)
       few (suc (suc (suc k))) l = absurd (omega arith)
 
--- ---- the listed table, and with ten labels
+-- ---- the listed table
 
-listing-8 : table (pairs 8) (byMasks 0 0) (expressionOf 8 listed) ≡ (1 ∷ 131328 ∷ []) ∷ (131328 ∷ []) ∷ []
+listed-table : table (pairs labelCount) (byMasks 0 0) (expressionOf labelCount listed) ≡ (1 ∷ 2098176 ∷ []) ∷ (2098176 ∷ []) ∷ []
 unfolding listed commandsIn treeOf expressionOf reading readFrom behind countFault counted effect noCounts readAt readCommand commandOf operandCount isCommand twoOperands oneOperand act
     actAll trees uniteNewest changeNewest byMasks fold pairs mapPair unitePairs connectTriple settles relabelTriple markT markF markU table tables leaf some products setOf canon insertAll insert compareLists
     compareNumbers has without replace
-listing-8 = refl
-
-listing-10 : table (pairs 10) (byMasks 0 0) (expressionOf 10 listed) ≡ (1 ∷ 2098176 ∷ []) ∷ (2098176 ∷ []) ∷ []
-unfolding listed commandsIn treeOf expressionOf reading readFrom behind countFault counted effect noCounts readAt readCommand commandOf operandCount isCommand twoOperands oneOperand act
-    actAll trees uniteNewest changeNewest byMasks fold pairs mapPair unitePairs connectTriple settles relabelTriple markT markF markU table tables leaf some products setOf canon insertAll insert compareLists
-    compareNumbers has without replace
-listing-10 = refl
+listed-table = refl

@@ -57,13 +57,13 @@ twins = 0x11 ∷ 0 ∷ 0x11 ∷ 0 ∷ 0x21 ∷ []
 rows : List Row
 rows =
     -- the listed table, with room to spare, with just the room, and with a word less; plainly the triples alone
-    row listed 32 32 5 8 (Written 2 5) (1 ∷ 1 ∷ 131328 ∷ 131328 ∷ 0 ∷ []) (Written 2 2) (1 ∷ 131328 ∷ [])
-    ∷ row listed 32 32 5 5 (Written 2 5) (1 ∷ 1 ∷ 131328 ∷ 131328 ∷ 0 ∷ []) (Written 2 2) (1 ∷ 131328 ∷ [])
-    ∷ row listed 32 32 5 4 (Refused 17 5) [] (Written 2 2) (1 ∷ 131328 ∷ [])
+    row listed 32 32 5 8 (Written 2 5) (1 ∷ 1 ∷ 2098176 ∷ 2098176 ∷ 0 ∷ []) (Written 2 2) (1 ∷ 2098176 ∷ [])
+    ∷ row listed 32 32 5 5 (Written 2 5) (1 ∷ 1 ∷ 2098176 ∷ 2098176 ∷ 0 ∷ []) (Written 2 2) (1 ∷ 2098176 ∷ [])
+    ∷ row listed 32 32 5 4 (Refused 17 5) [] (Written 2 2) (1 ∷ 2098176 ∷ [])
     ∷ refusal listed 32 32 5 1 17 5
     -- the newest part after the command asked
-    ∷ row listed 32 32 0 9 (Written 2 5) (1 ∷ 1 ∷ 256 ∷ 256 ∷ 0 ∷ []) (Written 2 2) (1 ∷ 256 ∷ [])
-    ∷ row listed 32 32 2 9 (Written 1 2) (131072 ∷ 0 ∷ []) (Written 1 1) (131072 ∷ [])
+    ∷ row listed 32 32 0 9 (Written 2 5) (1 ∷ 1 ∷ 1024 ∷ 1024 ∷ 0 ∷ []) (Written 2 2) (1 ∷ 1024 ∷ [])
+    ∷ row listed 32 32 2 9 (Written 1 2) (2097152 ∷ 0 ∷ []) (Written 1 1) (2097152 ∷ [])
     -- 14 at an operand's offset, at the end, behind it
     ∷ refusal listed 32 32 1 9 14 1
     ∷ refusal listed 32 32 6 9 14 6
@@ -75,14 +75,14 @@ rows =
     ∷ refusal twins 2 2 4 0 16 4
     ∷ row twins 3 1 4 0 (Refused 15 4) [] (Refused 17 4) []
     -- a report stops after the command asked: before the join that is too large, and after an earlier command that is
-    ∷ row twins 2 2 2 9 (Written 2 5) (1 ∷ 1 ∷ 256 ∷ 256 ∷ 0 ∷ []) (Written 2 2) (1 ∷ 256 ∷ [])
+    ∷ row twins 2 2 2 9 (Written 2 5) (1 ∷ 1 ∷ 1024 ∷ 1024 ∷ 0 ∷ []) (Written 2 2) (1 ∷ 1024 ∷ [])
     ∷ refusal (twins ++ (0x12 ∷ 1 ∷ 0x21 ∷ [])) 2 2 5 9 16 4
     -- pairs with equal Q: a list before its longer continuation
-    ∷ row (twins ++ (0x11 ∷ 0 ∷ 0x21 ∷ [])) 32 32 7 20 (Written 4 13) (1 ∷ 2 ∷ 256 ∷ 257 ∷ 256 ∷ 0 ∷ 257 ∷ 1 ∷ 256 ∷ 257 ∷ 2 ∷ 256 ∷ 257 ∷ []) (Written 3 3) (1 ∷ 256 ∷ 257 ∷ [])
-    -- and {514, 66048} before {66048}: lists are compared place by place, not by how many
+    ∷ row (twins ++ (0x11 ∷ 0 ∷ 0x21 ∷ [])) 32 32 7 20 (Written 4 13) (1 ∷ 2 ∷ 1024 ∷ 1025 ∷ 1024 ∷ 0 ∷ 1025 ∷ 1 ∷ 1024 ∷ 1025 ∷ 2 ∷ 1024 ∷ 1025 ∷ []) (Written 3 3) (1 ∷ 1024 ∷ 1025 ∷ [])
+    -- and {2050, 1050624} before {1050624}: lists are compared place by place, not by how many
     ∷ row (0x11 ∷ 1 ∷ 0x12 ∷ 0 ∷ 0x21 ∷ 0x11 ∷ 1 ∷ 0x21 ∷ 0x41 ∷ 1 ∷ 0 ∷ 0x11 ∷ 1 ∷ 0x21 ∷ []) 32 32 13 22 (Written 6 22)
-    (2 ∷ 3 ∷ 514 ∷ 66048 ∷ 66050 ∷ 514 ∷ 2 ∷ 514 ∷ 66048 ∷ 514 ∷ 3 ∷ 514 ∷ 66048 ∷ 66050 ∷ 514 ∷ 1 ∷ 66048 ∷ 66048 ∷ 0 ∷ 66050 ∷ 1 ∷ 66048 ∷ [])
-    (Written 4 4) (2 ∷ 514 ∷ 66048 ∷ 66050 ∷ [])
+    (2 ∷ 3 ∷ 2050 ∷ 1050624 ∷ 1050626 ∷ 2050 ∷ 2 ∷ 2050 ∷ 1050624 ∷ 2050 ∷ 3 ∷ 2050 ∷ 1050624 ∷ 1050626 ∷ 2050 ∷ 1 ∷ 1050624 ∷ 1050624 ∷ 0 ∷ 1050626 ∷ 1 ∷ 1050624 ∷ [])
+    (Written 4 4) (2 ∷ 2050 ∷ 1050624 ∷ 1050626 ∷ [])
     ∷ []
 
 -- what is left of a buffer of 9s

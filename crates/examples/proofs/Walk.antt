@@ -69,14 +69,14 @@ twins = 0x11 ∷ 0 ∷ 0x11 ∷ 0 ∷ 0x21 ∷ []
 
 -- the table of 11 00, of two pairs, and of 12 01, of one
 copy : List ℕ
-copy = 1 ∷ 1 ∷ 256 ∷ 0 ∷ 256 ∷ 0 ∷ 0 ∷ 0 ∷ []
+copy = 1 ∷ 1 ∷ 1024 ∷ 0 ∷ 1024 ∷ 0 ∷ 0 ∷ 0 ∷ []
 
 bare : List ℕ
-bare = 131072 ∷ 0 ∷ 0 ∷ 0 ∷ 0 ∷ 0 ∷ 0 ∷ 0 ∷ []
+bare = 2097152 ∷ 0 ∷ 0 ∷ 0 ∷ 0 ∷ 0 ∷ 0 ∷ 0 ∷ []
 
 -- what the listed sheet leaves at the end
 last : List ℕ
-last = 1 ∷ 1 ∷ 131328 ∷ 0 ∷ 131328 ∷ 0 ∷ 0 ∷ 0 ∷ []
+last = 1 ∷ 1 ∷ 2098176 ∷ 0 ∷ 2098176 ∷ 0 ∷ 0 ∷ 0 ∷ []
 
 -- ---- starting
 
@@ -107,13 +107,15 @@ moved : List Start
 moved =
     record { asks = call listed (at 0 0 0 0 0) (rest 24); leaves = leaving (at 2 1 2 0 0) Moved (copy ++ rest 16) }
     ∷ record { asks = call listed (at 2 1 2 0 0) (copy ++ rest 16); leaves = leaving (at 4 2 2 1 0) Moved (copy ++ bare ++ rest 8) }
-    ∷ record { asks = call listed (at 4 2 2 1 0) (copy ++ bare ++ rest 8); leaves = leaving (at 5 1 2 0 0) Moved (131073 ∷ 1 ∷ 131328 ∷ 0 ∷ 131328 ∷ 0 ∷ 0 ∷ 0 ∷ rest 16) }
-    ∷ record { asks = call listed (at 5 1 2 0 0) (131073 ∷ 1 ∷ 131328 ∷ 0 ∷ 131328 ∷ 0 ∷ 0 ∷ 0 ∷ rest 16); leaves = leaving (at 8 1 2 0 0) Moved (last ++ rest 16) }
+    ∷ record { asks = call listed (at 4 2 2 1 0) (copy ++ bare ++ rest 8); leaves = leaving (at 5 1 2 0 0) Moved (2097153 ∷ 1 ∷ 2098176 ∷ 0 ∷ 2098176 ∷ 0 ∷ 0 ∷ 0 ∷ rest 16) }
+    ∷ record { asks = call listed (at 5 1 2 0 0) (2097153 ∷ 1 ∷ 2098176 ∷ 0 ∷ 2098176 ∷ 0 ∷ 0 ∷ 0 ∷ rest 16); leaves = leaving (at 8 1 2 0 0) Moved (last ++ rest 16) }
     -- a copy that is pinned in has its first pair alone, pinned out its second
-    ∷ record { asks = pinned 1 0 (call listed (at 0 0 0 0 0) (rest 24)); leaves = leaving (at 2 1 1 0 0) Moved (1 ∷ 1 ∷ 256 ∷ 0 ∷ rest 20) }
-    ∷ record { asks = pinned 0 1 (call listed (at 0 0 0 0 0) (rest 24)); leaves = leaving (at 2 1 1 0 0) Moved (256 ∷ 0 ∷ 0 ∷ 0 ∷ rest 20) }
+    ∷ record { asks = pinned 1 0 (call listed (at 0 0 0 0 0) (rest 24)); leaves = leaving (at 2 1 1 0 0) Moved (1 ∷ 1 ∷ 1024 ∷ 0 ∷ rest 20) }
+    ∷ record { asks = pinned 0 1 (call listed (at 0 0 0 0 0) (rest 24)); leaves = leaving (at 2 1 1 0 0) Moved (1024 ∷ 0 ∷ 0 ∷ 0 ∷ rest 20) }
     -- a table that no walk reaches is acted on where its form is right
     ∷ record { asks = call listed (at 2 1 1 0 0) (rest 24); leaves = leaving (at 4 2 1 1 0) Moved (replicate 8 0 ++ bare ++ rest 8) }
+    -- 02, Item 12: 2^30 - 1 is a triple
+    ∷ record { asks = call listed (at 2 1 1 0 0) (1073741823 ∷ rest 23); leaves = leaving (at 4 2 1 1 0) Moved (1073741823 ∷ replicate 7 0 ++ bare ++ rest 8) }
     ∷ []
 
 abbrev stepsOf : List Start → List Step
@@ -150,8 +152,8 @@ stills =
     ∷ still (call (0x12 ∷ 1 ∷ []) (at 2 1 1 0 0) (bare ++ rest 8)) Ended outcome.No
     -- over P pairs; over G subsets, also with a P that is over; the verdict comes before the end
     ∷ still (call twins (at 4 2 2 2 0) (copy ++ copy ++ rest 8)) (Refused 16 4) (outcome.Refused 18 4)
-    ∷ still (limited 3 1 (call twins (at 4 2 2 2 0) (1 ∷ 1 ∷ 256 ∷ 256 ∷ 0 ∷ 0 ∷ 0 ∷ 0 ∷ 0 ∷ 1 ∷ 1 ∷ 256 ∷ 256 ∷ rest 14))) (Refused 15 4) (outcome.Refused 18 4)
-    ∷ still (limited 2 1 (call twins (at 4 2 2 2 0) (1 ∷ 1 ∷ 256 ∷ 256 ∷ 0 ∷ 0 ∷ 1 ∷ 1 ∷ 256 ∷ 256 ∷ rest 8))) (Refused 15 4) (outcome.Refused 18 4)
+    ∷ still (limited 3 1 (call twins (at 4 2 2 2 0) (1 ∷ 1 ∷ 1024 ∷ 1024 ∷ 0 ∷ 0 ∷ 0 ∷ 0 ∷ 0 ∷ 1 ∷ 1 ∷ 1024 ∷ 1024 ∷ rest 14))) (Refused 15 4) (outcome.Refused 18 4)
+    ∷ still (limited 2 1 (call twins (at 4 2 2 2 0) (1 ∷ 1 ∷ 1024 ∷ 1024 ∷ 0 ∷ 0 ∷ 1 ∷ 1 ∷ 1024 ∷ 1024 ∷ rest 8))) (Refused 15 4) (outcome.Refused 18 4)
     -- 1 to 13 come before 18
     ∷ still (limited 0 2 (call listed (at 1 0 0 0 0) (rest 24))) (Refused 2 0) (outcome.Refused 2 0)
     ∷ still (pinned 2 0 (call listed (at 1 0 0 0 0) (rest 24))) (Refused 13 8) (outcome.Refused 13 8)
@@ -167,19 +169,19 @@ stills =
     ∷ bad listed (at 2 1 0 0 0) (rest 24)
     ∷ bad listed (at 2 1 3 0 0) (1 ∷ 0 ∷ 0 ∷ 0 ∷ 2 ∷ 0 ∷ 0 ∷ 0 ∷ 3 ∷ rest 15)
     -- a word that is not zero: behind the subsets, behind the rows, in an area without a table, in the last word of scratch; words behind are not looked at
-    ∷ bad listed (at 2 1 2 0 0) (1 ∷ 1 ∷ 256 ∷ 1 ∷ 256 ∷ 0 ∷ 0 ∷ 0 ∷ rest 16)
-    ∷ bad listed (at 2 1 1 0 0) (1 ∷ 1 ∷ 256 ∷ 0 ∷ 0 ∷ 0 ∷ 0 ∷ 1 ∷ rest 16)
+    ∷ bad listed (at 2 1 2 0 0) (1 ∷ 1 ∷ 1024 ∷ 1 ∷ 1024 ∷ 0 ∷ 0 ∷ 0 ∷ rest 16)
+    ∷ bad listed (at 2 1 1 0 0) (1 ∷ 1 ∷ 1024 ∷ 0 ∷ 0 ∷ 0 ∷ 0 ∷ 1 ∷ rest 16)
     ∷ bad listed (at 2 1 2 0 0) (copy ++ (1 ∷ rest 15))
     ∷ bad listed (at 2 1 2 0 0) (copy ++ replicate 15 0 ++ (1 ∷ 9 ∷ 9 ∷ []))
     -- rows that fall, or are equal
-    ∷ bad listed (at 2 1 2 0 0) (256 ∷ 0 ∷ 0 ∷ 0 ∷ 1 ∷ 1 ∷ 256 ∷ 0 ∷ rest 16)
-    ∷ bad listed (at 2 1 2 0 0) (1 ∷ 1 ∷ 256 ∷ 0 ∷ 1 ∷ 1 ∷ 256 ∷ 0 ∷ rest 16)
-    -- subsets that fall, or are equal, or are too many; a triple of 2^24, a subset of 2^24
+    ∷ bad listed (at 2 1 2 0 0) (1024 ∷ 0 ∷ 0 ∷ 0 ∷ 1 ∷ 1 ∷ 1024 ∷ 0 ∷ rest 16)
+    ∷ bad listed (at 2 1 2 0 0) (1 ∷ 1 ∷ 1024 ∷ 0 ∷ 1 ∷ 1 ∷ 1024 ∷ 0 ∷ rest 16)
+    -- subsets that fall, or are equal, or are too many; a triple of 2^30, a subset of 2^30
     ∷ bad listed (at 2 1 1 0 0) (1 ∷ 2 ∷ 5 ∷ 3 ∷ rest 20)
     ∷ bad listed (at 2 1 1 0 0) (1 ∷ 2 ∷ 5 ∷ 5 ∷ rest 20)
     ∷ bad listed (at 2 1 1 0 0) (1 ∷ 3 ∷ 5 ∷ 6 ∷ 7 ∷ rest 19)
-    ∷ bad listed (at 2 1 1 0 0) (16777216 ∷ rest 23)
-    ∷ bad listed (at 2 1 1 0 0) (1 ∷ 1 ∷ 16777216 ∷ rest 21)
+    ∷ bad listed (at 2 1 1 0 0) (1073741824 ∷ rest 23)
+    ∷ bad listed (at 2 1 1 0 0) (1 ∷ 1 ∷ 1073741824 ∷ rest 21)
     -- also at the end
     ∷ bad listed (at 8 1 2 0 0) (last ++ (1 ∷ rest 15))
     ∷ []

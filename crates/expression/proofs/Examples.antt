@@ -70,8 +70,11 @@ rows =
     ∷ row listed 32 32 0 (2 ^ 63) (Refused 13 8)
     ∷ row [] 32 32 0 0 (Refused 12 0)
     ∷ row (0x21 ∷ []) 32 32 0 0 (Refused 11 0)
-    ∷ row (0x11 ∷ 7 ∷ []) 32 32 0 0 (passed 1 0 1)
-    ∷ row (0x11 ∷ 8 ∷ []) 32 32 0 0 (Refused 7 0)
+    -- 02, Item 12: labels are 0 to 9
+    ∷ row (0x11 ∷ 8 ∷ []) 32 32 0 0 (passed 1 0 1)
+    ∷ row (0x11 ∷ 9 ∷ []) 32 32 0 0 (passed 1 0 1)
+    ∷ row (0x11 ∷ 10 ∷ []) 32 32 0 0 (Refused 7 0)
+    ∷ row (0x12 ∷ 255 ∷ []) 32 32 0 0 (Refused 7 0)
     ∷ row (0x41 ∷ 0 ∷ []) 32 32 0 0 (Refused 6 0)
     ∷ row (0x41 ∷ 0 ∷ 0 ∷ []) 32 32 0 0 (Refused 8 0)
     -- an overlong expression and limits come before what is read, and a clash behind all that is
@@ -101,8 +104,8 @@ rows =
     ∷ roomed 3264 (row listed 32 32 0 0 (passed 1 1 2))
     ∷ roomed 9455615 (row eight 1024 1024 0 0 (Refused 3 0))
     ∷ roomed 9455616 (row eight 1024 1024 0 0 (passed 0 8 8))
-    ∷ roomed 2175 (row (0x11 ∷ 7 ∷ []) 32 32 0 0 (Refused 3 0))
-    ∷ roomed 2176 (row (0x11 ∷ 7 ∷ []) 32 32 0 0 (passed 1 0 1))
+    ∷ roomed 2175 (row (0x11 ∷ 9 ∷ []) 32 32 0 0 (Refused 3 0))
+    ∷ roomed 2176 (row (0x11 ∷ 9 ∷ []) 32 32 0 0 (passed 1 0 1))
     -- 4 alone; 5, 11, 12 and 13 before it: the atom that clashes is absent (40 of five, bit 63), or another that is assumed
     ∷ row listed 32 32 1 1 (Refused 4 0)
     ∷ row five 32 32 18 16 (Refused 4 0)
@@ -113,7 +116,7 @@ rows =
     ∷ row listed 32 32 (2 ^ 63) (2 ^ 63) (Refused 13 8)
     ∷ row listed 32 32 3 1 (Refused 13 8)
     ∷ row listed 32 32 1 3 (Refused 13 8)
-    -- 5 to 8 by a later command: bytes beside those that are commands; one operand missing, two; an operand of 8, first and second; equal ones
+    -- 5 to 8 by a later command: bytes beside those that are commands; one operand missing, two; an operand of 10, first and second; equal ones
     ∷ row (opening ++ (0 ∷ [])) 32 32 0 0 (Refused 5 5)
     ∷ row (opening ++ (0x10 ∷ [])) 32 32 0 0 (Refused 5 5)
     ∷ row (opening ++ (0x13 ∷ [])) 32 32 0 0 (Refused 5 5)
@@ -124,10 +127,10 @@ rows =
     ∷ row (opening ++ (0x12 ∷ [])) 32 32 0 0 (Refused 6 5)
     ∷ row (opening ++ (0x42 ∷ [])) 32 32 0 0 (Refused 6 5)
     ∷ row (opening ++ (0x43 ∷ 1 ∷ [])) 32 32 0 0 (Refused 6 5)
-    ∷ row (opening ++ (0x12 ∷ 8 ∷ [])) 32 32 0 0 (Refused 7 5)
-    ∷ row (opening ++ (0x31 ∷ 8 ∷ 0 ∷ [])) 32 32 0 0 (Refused 7 5)
-    ∷ row (opening ++ (0x42 ∷ 0 ∷ 8 ∷ [])) 32 32 0 0 (Refused 7 5)
-    ∷ row (opening ++ (0x43 ∷ 7 ∷ 7 ∷ [])) 32 32 0 0 (Refused 8 5)
+    ∷ row (opening ++ (0x12 ∷ 10 ∷ [])) 32 32 0 0 (Refused 7 5)
+    ∷ row (opening ++ (0x31 ∷ 10 ∷ 0 ∷ [])) 32 32 0 0 (Refused 7 5)
+    ∷ row (opening ++ (0x42 ∷ 0 ∷ 10 ∷ [])) 32 32 0 0 (Refused 7 5)
+    ∷ row (opening ++ (0x43 ∷ 9 ∷ 9 ∷ [])) 32 32 0 0 (Refused 8 5)
     -- 11 by a later command, and of each command with no operand
     ∷ row (opening ++ (0x21 ∷ [])) 32 32 0 0 (Refused 11 5)
     ∷ row (0x31 ∷ 0 ∷ 1 ∷ []) 32 32 0 0 (Refused 11 0)
@@ -138,12 +141,12 @@ rows =
     ∷ row (opening ++ (0x11 ∷ 0 ∷ 0x21 ∷ [])) 32 32 2 1 (passed 2 1 2)
     ∷ row (opening ++ (0x11 ∷ 0 ∷ 0x21 ∷ [])) 32 32 0 4 (Refused 13 8)
     -- 6 before 7, 7 before 8, 8 before 11
-    ∷ row (0x41 ∷ 8 ∷ []) 32 32 0 0 (Refused 6 0)
-    ∷ row (0x41 ∷ 8 ∷ 8 ∷ []) 32 32 0 0 (Refused 7 0)
+    ∷ row (0x41 ∷ 10 ∷ []) 32 32 0 0 (Refused 6 0)
+    ∷ row (0x41 ∷ 10 ∷ 10 ∷ []) 32 32 0 0 (Refused 7 0)
     ∷ row (0x31 ∷ 3 ∷ 3 ∷ []) 32 32 0 0 (Refused 8 0)
     ∷ row (0x41 ∷ 0 ∷ 1 ∷ []) 32 32 0 0 (Refused 11 0)
     -- the first faulty command, not the lowest number
-    ∷ row (0x11 ∷ 0 ∷ 0x11 ∷ 8 ∷ 0x99 ∷ []) 32 32 0 0 (Refused 7 2)
+    ∷ row (0x11 ∷ 0 ∷ 0x11 ∷ 10 ∷ 0x99 ∷ []) 32 32 0 0 (Refused 7 2)
     ∷ row (0x11 ∷ 0 ∷ 0x11 ∷ 1 ∷ []) 32 32 0 0 (Refused 12 4)
     -- a ninth operand
     ∷ row (times 9 (0x11 ∷ 0 ∷ [])) 32 32 0 0 (Refused 10 16)
@@ -163,7 +166,7 @@ unfolding every right rows row passed roomed times opening listed five eight sam
 examples = refl
 
 -- 02, Item 8: the depth told, and 1 and 5 to 12 in its place
-depth-examples : map (depthOutcome labelCount) (listed ∷ (0x11 ∷ 7 ∷ []) ∷ eight ∷ [] ∷ (opening ++ (0x99 ∷ [])) ∷ (opening ++ (0x11 ∷ 0 ∷ [])) ∷ times 4097 (0 ∷ []) ∷ [])
+depth-examples : map (depthOutcome labelCount) (listed ∷ (0x11 ∷ 9 ∷ []) ∷ eight ∷ [] ∷ (opening ++ (0x99 ∷ [])) ∷ (opening ++ (0x11 ∷ 0 ∷ [])) ∷ times 4097 (0 ∷ []) ∷ [])
     ≡ outcome.Yes 2 ∷ outcome.Yes 1 ∷ outcome.Yes 8 ∷ outcome.Refused 12 0 ∷ outcome.Refused 5 5 ∷ outcome.Refused 12 7 ∷ outcome.Refused 1 0 ∷ []
 unfolding times opening listed eight depthOutcome checkSheet overlongTest faultTest unjoinedTest countsOf faultPlace faultNumber isFaulty firstOf reading readFrom behind
     countFault counted effect noCounts readAt readCommand commandOf operandCount isCommand twoOperands oneOperand

@@ -12,7 +12,7 @@ ghost use Rattle.candidates.specs.Candidates.{pairOf, Readable};
 ghost use Rattle.forms.specs.Forms.{areZero, isRising, isRow};
 
 // A triple is three sets of labels::LABELS labels.
-pub const TRIPLE_LIMIT: u32 = 16777216;
+pub const TRIPLE_LIMIT: u32 = 1 << (3 * labels::LABELS as u32);
 
 // Whether the words are all 0.
 pub fn are_zero(part: &[u32]) -> bool

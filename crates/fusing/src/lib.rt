@@ -23,13 +23,12 @@ ghost use Rattle.batches.specs.Batches.{commandOf, commandsOf, stepTriple, step
 const LABELS: u32 = labels::LABELS as u32;
 
 // The word of a rule judged at once.
-fn judge_word(j: Judge) -> u32
+fn judge_word(j: Judge) -> u64
     requires { ⌜ Fits labelCount j ⌝ }
     ensures { λ w. ⌜ (judgesFrom labelCount ≤ w) × (judgeOf labelCount w ≡ j) ⌝ }
 {
-    ((LABELS + j.leaves * LABELS + j.after) * LABELS + j.label) * RULES
-        + j.negative * NEGATIVES
-        + j.marks
+    let front = ((1 + j.leaves) * LABELS + j.after) * LABELS + j.label;
+    front as u64 * RULES + j.negative as u64 * NEGATIVES + j.marks as u64
 }
 
 // The rule with atoms of label i put into it.
@@ -63,7 +62,7 @@ fn with_atoms(j: Judge, k: Kind, i: u32) -> Judge
 }
 
 // The word that does what a rule's word and then the command do, if it is of that rule; else 0. Only a rule that keeps its label can go on.
-fn joined(w: u32, c: Command) -> u32
+fn joined(w: u64, c: Command) -> u64
     requires { ⌜ Suits labelCount c ⌝ }
     ensures { λ s. ⌜ (0 < s → (q r : ℕ) → wordTriple labelCount s q r ≡ stepTriple labelCount c (wordTriple labelCount w q q) (wordTriple labelCount w q r)) ⌝ }
 {
@@ -102,8 +101,8 @@ fn joined(w: u32, c: Command) -> u32
     }
 }
 
-// The word that does what the command of a word does. A rule's is of a rule judged with no atoms yet; words above the commands' all stand for connects.
-fn alone(w: u32) -> u32
+// The word that does what the command of a word does. A rule's is of a rule judged with no atoms yet.
+fn alone(w: u32) -> u64
     ensures { λ s. ⌜ ((q r : ℕ) → wordTriple labelCount s q r ≡ stepTriple labelCount (commandOf labelCount w) q r) ⌝ }
 {
     if w < LABELS {
@@ -115,19 +114,16 @@ fn alone(w: u32) -> u32
             leaves: 0,
         });
     }
-    if w < JUDGES {
-        return w;
-    }
-    4 * LABELS * LABELS + w % (LABELS * LABELS)
+    w as u64
 }
 
 // The command of a word comes behind the first m words of code. The answer is how many they are then.
-fn put_word(code: &mut [u32], m: usize, w: u32) -> usize
+fn put_word(code: &mut [u64], m: usize, w: u32) -> usize
     requires { ⌜ m < length (now code) ⌝ }
     ensures { λ r. ⌜ (r ≤ m + 1) × ((x : List ℕ) → wordSteps labelCount (take r (now (code .exit))) x ≡ step labelCount (commandOf labelCount w) (wordSteps labelCount (take m (now (code .entry))) x)) ⌝ }
 {
     if 0 < m {
-        let s = joined(code[m - 1], command_of(w));
+        let s = joined(code[m - 1], command_of(w as u64));
         if 0 < s {
             code[m - 1] = s;
             return m;
@@ -153,7 +149,7 @@ fn speaks_of(j: Judge, g: u32) -> bool
 
 // The word for a in front of b, both words of rules, by which what has the rule's label is left to b; if b is relabelled like a and has no atoms of
 // these labels. Else 0.
-fn lighter(a: u32, b: u32) -> u32
+fn lighter(a: u64, b: u64) -> u64
     ensures { λ s. ⌜ (0 < s → (q r : ℕ) → wordTriple labelCount b (wordTriple labelCount s q q) (wordTriple labelCount s q r) ≡ wordTriple labelCount b (wordTriple labelCount a q q) (wordTriple labelCount a q r)) ⌝ }
 {
     if a < JUDGES {
@@ -192,7 +188,7 @@ fn lighter(a: u32, b: u32) -> u32
 }
 
 // The last but one of m words, lighter where it can be.
-fn lighten(code: &mut [u32], m: usize)
+fn lighten(code: &mut [u64], m: usize)
     requires { ⌜ m ≤ length (now code) ⌝ }
     ensures { λ _. ⌜ ((x : List ℕ) → wordSteps labelCount (take m (now (code .exit))) x ≡ wordSteps labelCount (take m (now (code .entry))) x) ⌝ }
 {
@@ -205,7 +201,7 @@ fn lighten(code: &mut [u32], m: usize)
 }
 
 // Words for the commands of ops, no more than they are. The answer is how many.
-pub fn fuse(code: &mut [u32], ops: &[u32]) -> usize
+pub fn fuse(code: &mut [u64], ops: &[u32]) -> usize
     requires { ⌜ length (now ops) ≤ length (now code) ⌝ }
     ensures { λ r. ⌜ (r ≤ length (now (code .exit))) × ((x : List ℕ) → wordSteps labelCount (take r (now (code .exit))) x ≡ steps labelCount (commandsOf (now (ops .entry))) x) ⌝ }
 {

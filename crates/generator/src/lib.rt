@@ -3,6 +3,9 @@ ghost use mathlib.Core.Path.{_≡_};
 ghost use Prim.Native.Nat.{_+_, _*_, _<_, _≤_};
 ghost use lib.ListN.{length, take};
 
+// labels::LABELS at the width of what is drawn.
+const LABELS: u64 = labels::LABELS as u64;
+
 // Marsaglia's xorshift; 0 is its one fixed point. It is linear over bits: what has to be drawn apart from a seed starts from a quotient of it.
 pub fn next_seed(x: u64) -> u64 {
     let a = x ^ (x << 13);
@@ -156,13 +159,13 @@ fn styled_command(style: u64, turn: u64, x: u64, depth: u64) -> u8 {
     command(turn, x, depth)
 }
 
-// One of the first 2, 3, 5 or 8 labels.
+// One of the first 2, 3 or 5 labels, or of all.
 fn label(x: u64, spread: u64) -> u8 {
     match spread % 4 {
         0 => (x % 2) as u8,
         1 => (x % 3) as u8,
         2 => (x % 5) as u8,
-        _ => (x % 8) as u8,
+        _ => (x % LABELS) as u8,
     }
 }
 
@@ -210,10 +213,20 @@ fn damage(x: u64, n: usize, out: &mut [u8]) -> usize
 }
 
 fn damaged_byte(x: u64) -> u8 {
-    if x % 4 == 0 {
-        return (x / 4 % 72) as u8;
+    match x % 4 {
+        0 => (x / 4 % 72) as u8,
+        1 => edge_label(x / 4),
+        _ => (x / 4 % LABELS) as u8,
     }
-    (x / 4 % 9) as u8
+}
+
+// The last label, the first byte that is none, or the greatest one.
+fn edge_label(x: u64) -> u8 {
+    match x % 3 {
+        0 => (LABELS - 1) as u8,
+        1 => LABELS as u8,
+        _ => 255,
+    }
 }
 
 // ---- limits and pins

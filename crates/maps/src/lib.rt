@@ -27,7 +27,7 @@ pub fn map_entry(
     to: usize,
     m: usize,
     v: Value,
-    code: &[u32],
+    code: &[u64],
 ) -> usize
     requires { ⌜ (2 ≤ w) × (w ≤ 4096) × (p ≤ 1024) × (length (now row) ≡ w) ⌝ }
     requires { ⌜ (ra + w ≤ length (now ws)) × (to + p * w ≤ length (now ws)) ⌝ }
@@ -54,7 +54,7 @@ pub fn map_all(
     n: usize,
     to: usize,
     made: usize,
-    code: &[u32],
+    code: &[u64],
 ) -> usize
     requires { ⌜ (2 ≤ w) × (w ≤ 4096) × (p ≤ 1024) × (length (now row) ≡ w) ⌝ }
     requires { ⌜ (a + p * w ≤ to) × (to + p * w ≤ length (now ws)) ⌝ }
@@ -104,7 +104,7 @@ fn map_fused(
     to: usize,
     made: usize,
     ops: &[u32],
-    code: &mut [u32],
+    code: &mut [u64],
 ) -> usize
     requires { ⌜ (2 ≤ w) × (w ≤ 4096) × (p ≤ 1024) × (length (now row) ≡ w) × (length (now ops) ≤ length (now code)) ⌝ }
     requires { ⌜ (a + p * w ≤ to) × (to + p * w ≤ length (now ws)) ⌝ }
@@ -156,7 +156,7 @@ pub fn map_table(
     ensures { λ r. ⌜ (r ≤ p) × Finished carry w p a (batchedAll carry w p a old n (commandsOf (now (ops .entry))) (now (vals .entry)) (now (ws .entry))) r (now (ws .entry)) (now (ws .entry)) (now (ws .exit)) (valueArea carry p made (now (vals .exit))) ⌝ }
     ensures { λ _. ⌜ OnlyArea carry p made (now (vals .entry)) (now (vals .exit)) ⌝ }
 {
-    let mut code = [0u32; batches::BATCH_LIMIT];
+    let mut code = [0u64; batches::BATCH_LIMIT];
     map_fused(
         ws,
         row,

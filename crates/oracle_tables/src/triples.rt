@@ -40,12 +40,15 @@ fn unmet(p: Policy, interpretation: u64, subset: u64) -> u64 {
     rules & members_of(p.rules, p.depth)
 }
 
-// T + 256 × F + 65536 × U.
+// labels::LABELS at the width of a triple.
+const LABELS: u32 = labels::LABELS as u32;
+
+// T, F and U behind each other (02, Item 12: T + 1024×F + 1048576×U).
 pub fn triple(p: Policy, interpretation: u64, subset: u64) -> u32 {
     let t = meeting(p.atoms.labels, atoms_of(p) & subset);
     let f = meeting(p.atoms.labels, atoms_of(p) & !subset);
     let u = meeting(p.rules.labels, unmet(p, interpretation, subset));
-    t | (f << 8) | (u << 16)
+    t | (f << LABELS) | (u << (2 * LABELS))
 }
 
 pub fn is_model(p: Policy, interpretation: u64, subset: u64) -> bool {

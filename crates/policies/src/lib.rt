@@ -3,12 +3,15 @@
 pub mod building;
 pub mod sets;
 
+use crate::sets::Sets;
+use crate::sets::no_sets;
+
 // Atoms (01: copies), or rules. The first eight are kept, the others counted.
 pub struct Members {
     pub count: u64,
     // for each label (01: group) and for each operand (01: part) the set of its members; see the module sets
-    pub labels: u64,
-    pub operands: u64,
+    pub labels: Sets,
+    pub operands: Sets,
 }
 
 // What the commands so far built. An operand's number is the depth at which it stands on the stack: the newest is number `depth`.
@@ -24,9 +27,9 @@ pub struct Policy {
     pub atoms: Members,
     pub rules: Members,
     // for each rule the three sets of atoms (01: head, needed, barring)
-    pub heads: u64,
-    pub positives: u64,
-    pub negatives: u64,
+    pub heads: Sets,
+    pub positives: Sets,
+    pub negatives: Sets,
 }
 
 // Before the first command.
@@ -39,17 +42,17 @@ pub fn no_policy() -> Policy {
         deepest: 0,
         atoms: no_members(),
         rules: no_members(),
-        heads: 0,
-        positives: 0,
-        negatives: 0,
+        heads: no_sets(),
+        positives: no_sets(),
+        negatives: no_sets(),
     }
 }
 
 fn no_members() -> Members {
     Members {
         count: 0,
-        labels: 0,
-        operands: 0,
+        labels: no_sets(),
+        operands: no_sets(),
     }
 }
 

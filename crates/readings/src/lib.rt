@@ -11,6 +11,9 @@ use policies::building::fault_of;
 use policies::no_policy;
 use policies::refused;
 
+// labels::LABELS at the width of an operand.
+const LABELS: u64 = labels::LABELS as u64;
+
 // The commands that start before an offset, or those up to the first with a fault.
 pub fn read_to(s: &[u8], end: usize) -> Policy
     requires { ⌜ end ≤ length (now s) ⌝ }
@@ -104,7 +107,7 @@ fn operands_fault(n: usize, i: u64, j: u64) -> u64 {
     if n < 2 {
         return 0;
     }
-    if i > 7 {
+    if i >= LABELS {
         return GROUP;
     }
     if n < 3 {
@@ -114,7 +117,7 @@ fn operands_fault(n: usize, i: u64, j: u64) -> u64 {
 }
 
 fn pair_fault(i: u64, j: u64) -> u64 {
-    if j > 7 {
+    if j >= LABELS {
         return GROUP;
     }
     if i == j {

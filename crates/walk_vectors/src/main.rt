@@ -44,6 +44,9 @@ use verdicts::verdict;
 // What stands in lent words before a walk.
 const MARK: u32 = 0xa5a5a5a5;
 
+// The least word that is no triple.
+const NO_TRIPLE: u32 = 1 << (3 * labels::LABELS as u32);
+
 fn clear(model: &mut [u32; 20000], from: usize, end: usize) {
     let mut k = from;
     while k < end {
@@ -387,7 +390,7 @@ fn refuses_words(
     model: &mut [u32; 20000],
 ) -> bool {
     let need = need_of(s, q);
-    if !refuses_word(s, q, r, needed(x, need), 16777216, ws, model) {
+    if !refuses_word(s, q, r, needed(x, need), NO_TRIPLE, ws, model) {
         return false;
     }
     refuses_word(s, q, r, scratch(x, need), 1, ws, model)

@@ -3,6 +3,7 @@ use mathlib.Core.Path.{refl, sym}
 use native.Mathlib.Omega.{arith}
 use lib.ListN.{length}
 use lib.Seq.{length-take-le}
+use Rattle.labels.specs.Labels.{labelCount}
 use Rattle.batches.proofs.Gathering.{made-pair}
 use borrow.Author.Needs.{needs}
 use Rattle.batches.proofs.batch_subsets.Statement.{statement}
@@ -35,7 +36,7 @@ returns c =
     let h = g .before .before .before .before in
     let k = h .before .before .before .before in
     let s = k .before .before .before .before .before in
-    (g .settle .ensures .0, made-pair (s .args .code .now) (s .args .q) _ (g .settle .result) (length (s .args .src .now)) (s .args .src .now) (s .args .run .now) (k .copy-words .last .0) (h .step-all .last .0) _ (g .settle .last .0) refl (k .copy-words .ensures) (h .step-all .ensures) (h .step-all .kept .0) refl (g .settle .ensures .1))
+    (g .settle .ensures .0, made-pair labelCount (s .args .code .now) (s .args .q) _ (g .settle .result) (length (s .args .src .now)) (s .args .src .now) (s .args .run .now) (k .copy-words .last .0) (h .step-all .last .0) _ (g .settle .last .0) refl (k .copy-words .ensures) (h .step-all .ensures) (h .step-all .kept .0) refl (g .settle .ensures .1))
 
 pub batch-subsets-spec : {M : Type 1} → statement M
 batch-subsets-spec =

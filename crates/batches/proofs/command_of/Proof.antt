@@ -1,8 +1,15 @@
 -- `batches::command_of`: one test after the other.
 use Rattle.labels.specs.Labels.{labelCount}
 use Rattle.batches.proofs.Steps.{is-rule, is-relabel, is-head, is-positive, is-negative}
+use borrow.Author.Needs.{needs}
 use Rattle.batches.proofs.command_of.Statement.{statement}
 use Rattle.batches.proofs.command_of.Tie as tie
+
+cast-j : tie.Need-cast-j
+cast-j c = search needs
+
+cast-i : tie.Need-cast-i
+cast-i c = search needs
 
 returns : tie.Need-returns
 returns c = is-rule labelCount _ (c .if1 .taken)
@@ -20,4 +27,4 @@ returns-5 : tie.Need-returns-5
 returns-5 c = is-negative labelCount _ (c .before .before .before .if1 .left) (c .before .before .if2 .left) (c .before .if3 .left) (c .if4 .left)
 
 pub command-of-spec : {M : Type 1} → statement M
-command-of-spec = tie.close (tie.spec returns returns-2 returns-3 returns-4 returns-5)
+command-of-spec = tie.close (tie.spec cast-j cast-i returns returns-2 returns-3 returns-4 returns-5)

@@ -2,6 +2,7 @@
 use mathlib.Core.Path.{refl, sym, ap, _∙_}
 use Rattle.expression.specs.declared.Kind.{Kind}
 use Rattle.expression.specs.declared.Command.the-variants.{Connect}
+use Rattle.labels.specs.Labels.{labelCount}
 use Rattle.batches.proofs.Steps.{head-word, positive-word, negative-word}
 use borrow.Author.Needs.{needs}
 use Rattle.batches.proofs.connect_word.Statement.{statement}
@@ -55,17 +56,17 @@ add-result-6 c = search needs
 returns : tie.Need-returns
 returns c =
     let s = c .before .before in
-    head-word (s .args .i) (s .args .j) _ (s .pre .0) (s .pre .1) refl ∙ ap (λ (k : Kind). Connect k (s .args .i) (s .args .j)) (sym (c .enum-told .given .1))
+    head-word labelCount (s .args .i) (s .args .j) _ (s .pre .0) (s .pre .1) refl ∙ ap (λ (k : Kind). Connect k (s .args .i) (s .args .j)) (sym (c .enum-told .given .1))
 
 returns-2 : tie.Need-returns-2
 returns-2 c =
     let s = c .before .before in
-    positive-word (s .args .i) (s .args .j) _ (s .pre .0) (s .pre .1) refl ∙ ap (λ (k : Kind). Connect k (s .args .i) (s .args .j)) (sym (c .enum-told2 .given .1))
+    positive-word labelCount (s .args .i) (s .args .j) _ (s .pre .0) (s .pre .1) refl ∙ ap (λ (k : Kind). Connect k (s .args .i) (s .args .j)) (sym (c .enum-told2 .given .1))
 
 returns-3 : tie.Need-returns-3
 returns-3 c =
     let s = c .before .before in
-    negative-word (s .args .i) (s .args .j) _ (s .pre .0) (s .pre .1) refl ∙ ap (λ (k : Kind). Connect k (s .args .i) (s .args .j)) (sym (c .enum-told3 .given .1))
+    negative-word labelCount (s .args .i) (s .args .j) _ (s .pre .0) (s .pre .1) refl ∙ ap (λ (k : Kind). Connect k (s .args .i) (s .args .j)) (sym (c .enum-told3 .given .1))
 
 pub connect-word-spec : {M : Type 1} → statement M
 connect-word-spec =

@@ -46,7 +46,7 @@ loop-again c =
     let k = d .before in
     let s = k .before .before .before in
     let q = k .loop .inv in
-    (omega (arith, d .loop-test .taken), u .word-all .kept .0 ∙ q .1, next-word _ (s .args .code .now) (k .loop .k) (d .loop-test .taken) (k .loop .own) (k .loop .run) (q .2) _ _ (c .word-triple .ensures) (u .word-all .ensures))
+    (omega (arith, d .loop-test .taken), u .word-all .kept .0 ∙ q .1, next-word labelCount _ (s .args .code .now) (k .loop .k) (d .loop-test .taken) (k .loop .own) (k .loop .run) (q .2) _ _ (c .word-triple .ensures) (u .word-all .ensures))
 
 same-length : tie.Need-same-length Inv-loop μ-loop
 same-length c = c .before .loop .inv .1
@@ -55,7 +55,7 @@ returns : tie.Need-returns Inv-loop μ-loop
 returns c =
     let k = c .before in
     let s = k .before .before .before in
-    no-words (s .args .code .now) (k .loop .k) (omega (arith, c .loop-test .left)) _ _ (k .loop .inv .2)
+    no-words labelCount (s .args .code .now) (k .loop .k) (omega (arith, c .loop-test .left)) _ _ (k .loop .inv .2)
 
 pub step-all-spec : {M : Type 1} → statement M
 step-all-spec =

@@ -1,4 +1,6 @@
 -- `batches::with_unmet`.
+use native.Mathlib.Omega.{arith}
+use Rattle.labels.specs.Labels.{labelCount}
 use Rattle.batches.proofs.Words.{unmet-marked}
 use borrow.Author.Needs.{needs}
 use Rattle.batches.proofs.with_unmet.Statement.{statement}
@@ -17,7 +19,7 @@ shl-result : tie.Need-shl-result
 shl-result c = search needs
 
 returns : tie.Need-returns
-returns c = unmet-marked (c .args .met) (c .args .r) (c .args .g) (c .pre)
+returns c = unmet-marked labelCount 32 (c .args .r) (c .args .g) (c .args .met) (omega arith) (c .pre)
 
 pub with-unmet-spec : {M : Type 1} → statement M
 with-unmet-spec = tie.close (tie.spec cast-result mul-result add-result shl-result returns)

@@ -18,10 +18,10 @@ shl-m : tie.Need-shl-m
 shl-m c = search needs
 
 sub-result : tie.Need-sub-result
-sub-result c = rw (mark-is (2 * labelCount + c .args .g) (omega (arith, c .pre))) (mark-within (c .args .g) (c .args .r))
+sub-result c = rw (mark-is (2 * labelCount + c .args .g) 32 (omega (arith, c .pre))) (mark-within (2 * labelCount + c .args .g) (c .args .r))
 
 returns : tie.Need-returns
-returns c = rw (mark-is (2 * labelCount + c .args .g) (omega (arith, c .pre))) (taken-out (2 * labelCount + c .args .g) (c .args .r))
+returns c = rw (mark-is (2 * labelCount + c .args .g) 32 (omega (arith, c .pre))) (taken-out (2 * labelCount + c .args .g) (c .args .r))
 
 pub without-rule-spec : {M : Type 1} → statement M
 without-rule-spec = tie.close (tie.spec mul-m add-m shl-m sub-result returns)

@@ -25,13 +25,13 @@ same-length : tie.Need-same-length
 same-length c = search needs
 
 returns : tie.Need-returns
-returns c = let k = c .before .before in let s = k .before .before .before .before .before in k .step-words .ensures ∙ commands-made (s .args .w) (s .args .q) (s .args .run .now) _ (k .before .command-of .ensures) (k .before .before .before .if1 .taken)
+returns c = let k = c .before .before in let s = k .before .before .before .before .before in k .step-words .ensures ∙ commands-made labelCount (s .args .w) (s .args .q) (s .args .run .now) _ (k .before .command-of .ensures) (k .before .before .before .if1 .taken)
 
 same-length-2 : tie.Need-same-length-2
 same-length-2 c = search needs
 
 returns-2 : tie.Need-returns-2
-returns-2 c = let k = c .before .before in let s = k .before .before .before .before .before in k .judge-words .ensures ∙ judges-made (s .args .w) (s .args .q) (s .args .run .now) _ (k .before .judge-of .ensures .0) (omega (arith, k .before .before .before .if1 .left))
+returns-2 c = let k = c .before .before in let s = k .before .before .before .before .before in k .judge-words .ensures ∙ judges-made labelCount (s .args .w) (s .args .q) (s .args .run .now) _ (k .before .judge-of .ensures .0) (omega (arith, k .before .before .before .if1 .left))
 
 pub word-all-spec : {M : Type 1} → statement M
 word-all-spec =

@@ -41,10 +41,10 @@ enum-told-2 : tie.Need-enum-told-2
 enum-told-2 c = search needs
 
 returns : tie.Need-returns
-returns c = rule-word _ (rule-label labelCount _ (c .before .c .given .1) (c .before .before .before .pre .0)) ∙ sym (c .before .c .given .1)
+returns c = rule-word labelCount _ (rule-label labelCount _ (c .before .c .given .1) (c .before .before .before .pre .0)) ∙ sym (c .before .c .given .1)
 
 returns-2 : tie.Need-returns-2
-returns-2 c = relabel-word _ _ _ (labels c .0) (labels c .1) refl ∙ sym (c .before .c2 .given .1)
+returns-2 c = relabel-word labelCount _ _ _ (labels c .0) (labels c .1) refl ∙ sym (c .before .c2 .given .1)
 
 returns-3 : tie.Need-returns-3
 returns-3 c = c .connect-word .ensures ∙ sym (c .before .before .c3 .given .1)

@@ -16,7 +16,7 @@ step-triple-requires : tie.Need-step-triple-requires
 step-triple-requires c κs = subst (Suits labelCount) (sym (c .command-of .ensures)) (suits-word labelCount (omega arith) _)
 
 returns : tie.Need-returns
-returns c = command-made _ _ _ _ _ (c .before .command-of .ensures) (c .step-triple .ensures) (c .before .before .if1 .taken)
+returns c = command-made labelCount _ _ _ _ _ (c .before .command-of .ensures) (c .step-triple .ensures) (c .before .before .if1 .taken)
 
 judge-of-requires : tie.Need-judge-of-requires
 judge-of-requires c κs = search needs
@@ -25,7 +25,7 @@ judge-triple-requires : tie.Need-judge-triple-requires
 judge-triple-requires c κs = search needs
 
 returns-2 : tie.Need-returns-2
-returns-2 c = judge-made _ _ _ _ _ (c .before .judge-of .ensures .0) (c .judge-triple .ensures) (omega (arith, c .before .before .if1 .left))
+returns-2 c = judge-made labelCount _ _ _ _ _ (c .before .judge-of .ensures .0) (c .judge-triple .ensures) (omega (arith, c .before .before .if1 .left))
 
 pub word-triple-spec : {M : Type 1} → statement M
 word-triple-spec =

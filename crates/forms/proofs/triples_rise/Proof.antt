@@ -1,15 +1,16 @@
 -- `forms::triples_rise`: what is left of the triples, from the least that the next one may be, tells of all of them. Assumes nothing.
 use mathlib.Core.Path.{_≡_, refl, _∙_}
-use Prim.Native.Nat.{_≤_, _-_}
+use Prim.Native.Nat.{_-_, _*_, _^_, _≤_}
 use native.Mathlib.Omega.{arith}
 use lib.ListN.{length, drop}
+use Rattle.labels.specs.Labels.{labelCount}
 use Rattle.forms.proofs.Scans.{climbs, climbs-is, climbs-ended, climbs-over, climbs-low, climbs-passed}
 use Rattle.forms.proofs.triples_rise.Statement.{statement}
 use Rattle.forms.proofs.triples_rise.Tie as tie
 
 abbrev Inv-loop : tie.InvT-loop
 Inv-loop triples low₀ i₀ low i =
-    (i ≤ length triples) × (low ≤ 16777216) × (climbs 16777216 low (drop i triples) ≡ climbs 16777216 0 triples)
+    (i ≤ length triples) × (low ≤ 2 ^ (3 * labelCount)) × (climbs (2 ^ (3 * labelCount)) low (drop i triples) ≡ climbs (2 ^ (3 * labelCount)) 0 triples)
 
 abbrev μ-loop : tie.MeasureT-loop
 μ-loop triples low₀ i₀ low i = length triples - i
@@ -26,12 +27,12 @@ shared-slice-read-x c = omega arith
 returns : tie.Need-returns Inv-loop μ-loop
 returns c =
     let at-test = c .before .before in
-    climbs-over _ _ _ _ (at-test .loop-test .taken) (at-test .before .loop .inv .2) (c .if1 .taken) ∙ climbs-is 16777216 _
+    climbs-over _ _ _ _ (at-test .loop-test .taken) (at-test .before .loop .inv .2) (c .if1 .taken) ∙ climbs-is (2 ^ (3 * labelCount)) _
 
 returns-2 : tie.Need-returns-2 Inv-loop μ-loop
 returns-2 c =
     let at-test = c .before .before .before in
-    climbs-low _ _ _ _ (at-test .loop-test .taken) (at-test .before .loop .inv .2) (c .before .if1 .left) (c .if2 .taken) ∙ climbs-is 16777216 _
+    climbs-low _ _ _ _ (at-test .loop-test .taken) (at-test .before .loop .inv .2) (c .before .if1 .left) (c .if2 .taken) ∙ climbs-is (2 ^ (3 * labelCount)) _
 
 add-low : tie.Need-add-low Inv-loop μ-loop
 add-low c = omega arith
@@ -48,7 +49,7 @@ loop-again c =
     (omega arith, omega arith, climbs-passed _ _ _ _ (at-test .loop-test .taken) (at-test .before .loop .inv .2) (c .before .if1 .left) (c .if2 .left))
 
 returns-3 : tie.Need-returns-3 Inv-loop μ-loop
-returns-3 c = climbs-ended _ _ _ _ (c .loop-test .left) (c .before .loop .inv .2) ∙ climbs-is 16777216 _
+returns-3 c = climbs-ended _ _ _ _ (c .loop-test .left) (c .before .loop .inv .2) ∙ climbs-is (2 ^ (3 * labelCount)) _
 
 pub triples-rise-spec : {M : Type 1} → statement M
 triples-rise-spec =

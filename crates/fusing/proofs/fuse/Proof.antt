@@ -49,7 +49,7 @@ loop-again c =
     let k = e .before in
     let s = k .before .before .before in
     let q = k .loop .inv in
-    (omega (arith, e .loop-test .taken), omega (arith, u .put-word .ensures .0, q .1), v .lighten .kept .0 ∙ u .put-word .kept .0 ∙ q .2, λ x. next-command _ (s .args .ops .now) (k .loop .k) (e .loop-test .taken) _ _ (q .3 x) (v .lighten .ensures x ∙ u .put-word .ensures .1 x))
+    (omega (arith, e .loop-test .taken), omega (arith, u .put-word .ensures .0, q .1), v .lighten .kept .0 ∙ u .put-word .kept .0 ∙ q .2, λ x. next-command labelCount _ (s .args .ops .now) (k .loop .k) (e .loop-test .taken) _ _ (q .3 x) (v .lighten .ensures x ∙ u .put-word .ensures .1 x))
 
 same-length : tie.Need-same-length Inv-loop μ-loop
 same-length c = c .before .loop .inv .2
@@ -58,7 +58,7 @@ returns : tie.Need-returns Inv-loop μ-loop
 returns c =
     let k = c .before in
     let s = k .before .before .before in
-    (omega (arith, k .loop .inv .0, k .loop .inv .1, k .loop .inv .2, s .pre), λ x. no-commands (s .args .ops .now) (k .loop .k) (omega (arith, c .loop-test .left)) _ _ (k .loop .inv .3 x))
+    (omega (arith, k .loop .inv .0, k .loop .inv .1, k .loop .inv .2, s .pre), λ x. no-commands labelCount (s .args .ops .now) (k .loop .k) (omega (arith, c .loop-test .left)) _ _ (k .loop .inv .3 x))
 
 pub fuse-spec : {M : Type 1} → statement M
 fuse-spec =

@@ -61,7 +61,7 @@ returns-6 c =
     let el = sym (e .if4 .left) in
     let ea = sym (d .before .before .before .before .if2 .left) ∙ el in
     let ez = d .before .before .if3 .left in
-    λ p q r. connect-fused _ _ (omega (arith, a .before .if1 .left)) (a .judge-of .ensures .0) _ _ (c .judge-word .ensures .0) (c .judge-word .ensures .1) _ el ea ez (v .3 ∙ ez) _ q r _ _ (d .c .given .1) (connect-labels labelCount _ (d .c .given .1) (a .before .before .pre) .0) (v .1 ∙ el) (v .2 ∙ ea) (v .4 q r)
+    λ p q r. connect-fused labelCount _ _ (omega (arith, a .before .if1 .left)) (a .judge-of .ensures .0) _ _ (c .judge-word .ensures .0) (c .judge-word .ensures .1) _ el ea ez (v .3 ∙ ez) _ q r _ _ (d .c .given .1) (connect-labels labelCount _ (d .c .given .1) (a .before .before .pre) .0) (v .1 ∙ el) (v .2 ∙ ea) (v .4 q r)
 
 returns-7 : tie.Need-returns-7
 unfolding isMet
@@ -71,7 +71,7 @@ returns-7 c =
     let a = e .before .before .before .before .before .before .before .before .before in
     let el = sym (e .if5 .left) in
     let ea = sym (d .before .before .before .before .if2 .left) ∙ el in
-    λ p q r. relabel-fused _ _ (omega (arith, a .before .if1 .left)) (a .judge-of .ensures .0) _ _ (c .judge-word2 .ensures .0) (c .judge-word2 .ensures .1) _ el ea (d .before .before .if3 .left) refl _ q r _ (d .c2 .given .1) refl refl refl
+    λ p q r. relabel-fused labelCount _ _ (omega (arith, a .before .if1 .left)) (a .judge-of .ensures .0) _ _ (c .judge-word2 .ensures .0) (c .judge-word2 .ensures .1) _ el ea (d .before .before .if3 .left) refl _ q r _ (d .c2 .given .1) refl refl refl
 
 returns-8 : tie.Need-returns-8
 returns-8 c = search needs

@@ -1,4 +1,5 @@
 -- `fusing::lighten`: the word in place of the last but one.
+use Rattle.labels.specs.Labels.{labelCount}
 use Rattle.fusing.proofs.Fusing.{put-first}
 use borrow.Author.Needs.{needs}
 use Rattle.fusing.proofs.lighten.Statement.{statement}
@@ -36,7 +37,7 @@ returns c =
     let t = c .before in
     let k = t .before .before .before in
     let s = k .before .before in
-    λ x. put-first (s .args .code .now) (s .args .m) _ x (k .if1 .taken) (s .pre) (t .lighter .ensures (c .if2 .taken))
+    λ x. put-first labelCount (s .args .code .now) (s .args .m) _ x (k .if1 .taken) (s .pre) (t .lighter .ensures (c .if2 .taken))
 
 returns-2 : tie.Need-returns-2
 returns-2 c = search needs

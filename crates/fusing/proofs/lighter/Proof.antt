@@ -69,7 +69,7 @@ returns-9 c =
     let j0 : v .judge-of2 .result .leaves ≡ 0 = omega (arith, e3 .if3 .left) in
     let a = three-false _ _ _ (sym (t1 .speaks-of .ensures) ∙ e7 .if7 .left) in
     let b = three-false _ _ _ (sym (t2 .speaks-of2 .ensures) ∙ e8 .if8 .left) in
-    λ p q r. both-judged _ _ _ (omega (arith, w .before .before .if1 .left)) (omega (arith, w .before .if2 .left)) (c .judge-word .ensures .0) _ _ _ (w .judge-of .ensures .0) (v .judge-of2 .ensures .0) (c .judge-word .ensures .1) q r
+    λ p q r. both-judged labelCount _ _ _ (omega (arith, w .before .before .if1 .left)) (omega (arith, w .before .if2 .left)) (c .judge-word .ensures .0) _ _ _ (w .judge-of .ensures .0) (v .judge-of2 .ensures .0) (c .judge-word .ensures .1) q r
     (left-to labelCount _ _ (f .2) (f .3) (e6 .if6 .left) _ (f .0) (f .1) (a .0) (a .1) (a .2) (b .0) (b .1) (b .2) (w .judge-of .result) _ (e4 .if4 .left) (e5 .if5 .left) i0 (e5 .if5 .left) (λ z. omega (arith, z)) refl refl j0 q r (λ t. refl))
 
 pub lighter-spec : {M : Type 1} → statement M

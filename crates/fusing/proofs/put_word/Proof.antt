@@ -44,7 +44,7 @@ returns c =
     let t = c .before .before in
     let k = t .before .before in
     let s = k .before .before in
-    (omega arith, λ x. put-last (s .args .code .now) (s .args .m) _ (t .command-of .result) x (k .if1 .taken) (omega (arith, s .pre)) (c .before .joined .ensures (c .if2 .taken)) ∙ ap (λ (d : Command). step labelCount d (wordSteps labelCount (take (s .args .m) (s .args .code .now)) x)) (t .command-of .ensures))
+    (omega arith, λ x. put-last labelCount (s .args .code .now) (s .args .m) _ (t .command-of .result) x (k .if1 .taken) (omega (arith, s .pre)) (c .before .joined .ensures (c .if2 .taken)) ∙ ap (λ (d : Command). step labelCount d (wordSteps labelCount (take (s .args .m) (s .args .code .now)) x)) (t .command-of .ensures))
 
 alone-requires : tie.Need-alone-requires
 alone-requires c κs = search needs
@@ -64,7 +64,7 @@ same-length-2 c = search needs
 returns-2 : tie.Need-returns-2
 returns-2 c =
     let s = c .before .before .before in
-    (omega arith, λ x. put-behind (s .args .code .now) (s .args .m) _ (commandOf labelCount (s .args .w)) x (s .pre) (c .alone .ensures))
+    (omega arith, λ x. put-behind labelCount (s .args .code .now) (s .args .m) _ (commandOf labelCount (s .args .w)) x (s .pre) (c .alone .ensures))
 
 pub put-word-spec : {M : Type 1} → statement M
 put-word-spec =

@@ -1,7 +1,8 @@
 -- `fusing::with_atoms`: by the kind.
 use mathlib.Core.Path.{refl}
-use Prim.Native.Nat.{_+_}
+use Prim.Native.Nat.{_+_, _*_}
 use native.Mathlib.Omega.{arith}
+use Rattle.labels.specs.Labels.{labelCount}
 use Rattle.fusing.proofs.Words.{with-mark, head-in, positive-in, negative-in}
 use borrow.Author.Needs.{needs}
 use Rattle.fusing.proofs.with_atoms.Statement.{statement}
@@ -32,19 +33,19 @@ returns : tie.Need-returns
 returns c =
     let s = c .before .before .before in
     let f = s .pre .0 in
-    ((with-mark 16 _ (s .args .i) (f .0) (omega (arith, s .pre .1)) (omega arith), f .1, f .2, f .3, f .4), refl, refl, refl, λ q r. head-in (s .args .j) (s .args .k) (s .args .i) q r (s .pre .1) (c .before .enum-told .given .1))
+    ((with-mark (2 * labelCount) _ (s .args .i) 32 (f .0) (omega (arith, s .pre .1)) (omega arith), f .1, f .2, f .3, f .4), refl, refl, refl, λ q r. head-in labelCount 32 (s .args .j) (s .args .k) (s .args .i) q r (omega arith) (s .pre .1) (c .before .enum-told .given .1))
 
 returns-2 : tie.Need-returns-2
 returns-2 c =
     let s = c .before .before .before in
     let f = s .pre .0 in
-    ((with-mark 16 _ (8 + s .args .i) (f .0) (omega (arith, s .pre .1)) (omega arith), f .1, f .2, f .3, f .4), refl, refl, refl, λ q r. positive-in (s .args .j) (s .args .k) (s .args .i) q r (s .pre .1) (c .before .enum-told2 .given .1))
+    ((with-mark (2 * labelCount) _ (labelCount + s .args .i) 32 (f .0) (omega (arith, s .pre .1)) (omega arith), f .1, f .2, f .3, f .4), refl, refl, refl, λ q r. positive-in labelCount 32 (s .args .j) (s .args .k) (s .args .i) q r (omega arith) (s .pre .1) (c .before .enum-told2 .given .1))
 
 returns-3 : tie.Need-returns-3
 returns-3 c =
     let s = c .before .before .before in
     let f = s .pre .0 in
-    ((f .0, with-mark 8 _ (s .args .i) (f .1) (omega (arith, s .pre .1)) (omega arith), f .2, f .3, f .4), refl, refl, refl, λ q r. negative-in (s .args .j) (s .args .k) (s .args .i) q r (s .pre .1) (c .before .enum-told3 .given .1))
+    ((f .0, with-mark labelCount _ (s .args .i) 32 (f .1) (omega (arith, s .pre .1)) (omega arith), f .2, f .3, f .4), refl, refl, refl, λ q r. negative-in labelCount 32 (s .args .j) (s .args .k) (s .args .i) q r (omega arith) (s .pre .1) (c .before .enum-told3 .given .1))
 
 pub with-atoms-spec : {M : Type 1} → statement M
 with-atoms-spec =

@@ -5,10 +5,10 @@ use Rattle.policies.proofs.sets.linked.Statement.{statement}
 use Rattle.policies.proofs.sets.linked.Tie as tie
 
 abbrev Inv-loop : tie.InvT-loop
-Inv-loop sets numbers more next₀ k₀ next k = k ≤ 8
+Inv-loop sets numbers more k₀ next k = k ≤ 8
 
 abbrev μ-loop : tie.MeasureT-loop
-μ-loop sets numbers more next₀ k₀ next k = 8 - k
+μ-loop sets numbers more k₀ next k = 8 - k
 
 loop-holds : tie.Need-loop-holds Inv-loop μ-loop
 loop-holds c = search needs

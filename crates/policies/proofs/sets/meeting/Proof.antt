@@ -1,14 +1,15 @@
 -- `sets::meeting` is safe and ends. Assumes nothing.
 use Prim.Native.Nat.{_-_, _≤_}
 use borrow.Author.Needs.{needs}
+use Rattle.labels.specs.Labels.{labelCount}
 use Rattle.policies.proofs.sets.meeting.Statement.{statement}
 use Rattle.policies.proofs.sets.meeting.Tie as tie
 
 abbrev Inv-loop : tie.InvT-loop
-Inv-loop sets set numbers₀ k₀ numbers k = k ≤ 8
+Inv-loop sets set numbers₀ k₀ numbers k = k ≤ labelCount
 
 abbrev μ-loop : tie.MeasureT-loop
-μ-loop sets set numbers₀ k₀ numbers k = 8 - k
+μ-loop sets set numbers₀ k₀ numbers k = labelCount - k
 
 loop-holds : tie.Need-loop-holds Inv-loop μ-loop
 loop-holds c = search needs
