@@ -39,7 +39,7 @@ static const refusal_words refusals[] = {
     {"clash", "a copy is pinned in and out", REQUEST},
     {"unknown", "there is no such command byte", BYTE},
     {"cut", "the command's operands are missing", BYTE},
-    {"group", "an operand is over 7", BYTE},
+    {"group", "an operand is over 9", BYTE},
     {"same", "a move or link names one group twice", BYTE},
     {"crowded", "this is a 64th copy or a 257th rule", BYTE},
     {"deep", "this is a ninth part", BYTE},

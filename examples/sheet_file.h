@@ -18,7 +18,7 @@
 #define SHEET_FILE_TOO_LONG ((size_t)1 << 26)
 
 // How a file is to be read. A guess is made only where it is plain: text begins with # or two digits and has no control byte but white
-// space; raw bytes begin otherwise and have one. (A raw sheet that has none has no operand, and its first command is a fault.)
+// space; raw bytes begin otherwise and have one. (A raw sheet that has none has no leaf, and its first command is a fault.)
 typedef enum { SHEET_FILE_GUESS, SHEET_FILE_HEX, SHEET_FILE_RAW } sheet_file_form;
 
 typedef enum {

@@ -55,7 +55,7 @@ expect 0 'yes: the first grounded plan keeps these copies: 1' "$host" "$sheets/e
 expect 0 'yes: the first grounded plan keeps these copies: 0' "$host" "$sheets/either_of_two.hex" -o 1
 expect 1 'no: no grounded plan obeys the pins; some plan' "$host" "$sheets/circle_ticked.hex"
 expect 1 'no plan that obeys them even meets every rule' "$host" "$sheets/unmet_rule.hex"
-expect 2 'refused: 7 group at byte 2' "$host" "$sheets/refused_group.hex"
+expect 2 'refused: 7 group at byte 2: an operand is over 9' "$host" "$sheets/refused_group.hex"
 expect 0 'Exit status: 0 yes, 1 no, 2 refused' "$host" --help
 
 # ---- a long text is read whole
@@ -100,6 +100,7 @@ expect 2 'refused: 1 overlong' "$host" long.bin
 printf '!' >join.bin
 printf '1' >digit
 printf 'A\000' >cut.bin
+printf '\021\011' >tab.bin
 printf '11 00\000' >zero.hex
 printf '# a bell \007\n%s\n' "$listed" >bell.hex
 expect 6 'join.bin: raw bytes or hexadecimal text? It begins with byte 21, not as text' "$host" join.bin
@@ -113,6 +114,7 @@ expect 6 'It begins as text, but byte 9 is 07' "$host" bell.hex
 expect 0 'bell.hex, read as hexadecimal text: 8 bytes' "$host" --hex bell.hex
 expect 0 'listed.bin, read as raw bytes: 8 bytes' "$host" listed.bin
 expect 2 'refused: 6 cut at byte 0' "$host" cut.bin
+expect 0 'tab.bin, read as raw bytes: 2 bytes' "$host" tab.bin
 expect 2 'listed.hex, read as raw bytes: 24 bytes' "$host" --raw listed.hex
 expect 3 'host: --hex: --raw and --hex exclude each other' "$host" --raw --hex listed.hex
 

@@ -24,7 +24,7 @@ module _ {A : Type 0} (cmp : A → A → Order) where
   isRising [] = true
   isRising (x ∷ xs) = risesFrom x xs
 
--- a row of G + 2 words: at most G subsets, triples under 2^24 (three sets of K labels), the subsets strictly rising, zeros behind them
+-- a row of G + 2 words: at most G subsets, triples under 2 ^ (3 * K), which is 2^30 at ten labels, the subsets strictly rising, zeros behind them
 unfoldable pub isRow : ℕ → List ℕ → Bool
 isRow K row =
     leb (2 + getD row 1 0) (length row)
