@@ -2,12 +2,12 @@
 use mathlib.Core.Path.{_≡_, refl, ap, _∙_}
 use mathlib.Core.Bool.{Bool, true, false, cond}
 use mathlib.Core.List.{List, [], _∷_, map}
-use Prim.Native.Nat.{ℕ, zero, suc, _+_, _*_, _/_, _%_, _^_, _≤_, _<_}
-use native.Mathlib.Nat.{zero-mul, one-mul, mod-lt, not-suc-le-zero, le-of-suc-le-suc}
+use Prim.Native.Nat.{ℕ, zero, suc, _+_, _-_, _*_, _/_, _%_, _^_, _≤_, _<_, min}
+use native.Mathlib.Nat.{zero-mul, one-mul, not-suc-le-zero, le-of-suc-le-suc, min-le-right, min-eq-left, pow-suc}
 use native.Mathlib.Omega.{arith}
 use lib.Bits.{bitOr}
 use lib.Arith.{digits-div, digits-mod}
-use lib.Pow.{shl-exact}
+use lib.Pow.{pow-pos, shl-exact}
 use lib.Dec.{eqb}
 use borrow.Author.Tests.{eq-eqb, ne-eqb}
 use lib.ListN.{length, getD}
@@ -19,7 +19,7 @@ use Rattle.expression.specs.Commands.{Suits}
 use Rattle.expression.specs.Effects.{effect}
 use Rattle.tables.specs.Triples.{markU}
 use Rattle.candidates.specs.Candidates.{mapTriple}
-use Rattle.batches.specs.Batches.{Joins, formed, commandOf, stepTriple}
+use Rattle.batches.specs.Batches.{Joins, labelIn, formed, commandOf, stepTriple}
 
 -- the labels of a word are below K
 suits-formed : (K f i j : ℕ) → i < K → j < K → Suits K (formed f i j)
@@ -33,69 +33,77 @@ suits-formed K f i j a b = go (eqb f 0) (eqb f 1) (eqb f 2) (eqb f 3)
     go false false false true = (a, b)
     go false false false false = (a, b)
 
+pub in-labels : (K : ℕ) → 0 < K → (x : ℕ) → labelIn K x < K
+unfolding labelIn
+in-labels K l x = omega (arith, min-le-right (x % 2 ^ K) (K - 1), l)
+
 pub suits-word : (K : ℕ) → 0 < K → (w : ℕ) → Suits K (commandOf K w)
 unfolding commandOf
-suits-word K l w = suits-formed K (w / K / K) (w / K % K) (w % K) (mod-lt (w / K) l) (mod-lt w l)
+suits-word K l w = suits-formed K (w / 2 ^ K / 2 ^ K) (labelIn K (w / 2 ^ K)) (labelIn K w) (in-labels K l (w / 2 ^ K)) (in-labels K l w)
 
 -- a word's command, by the tests in order
-module _ (K w : ℕ) where
+module _ (K w i j : ℕ) (ei : i ≡ labelIn K (w / 2 ^ K)) (ej : j ≡ labelIn K w) where
   abbrev form : ℕ
-  form = w / K / K
+  form = w / 2 ^ K / 2 ^ K
 
-  abbrev left : ℕ
-  left = w / K % K
-
-  abbrev right : ℕ
-  right = w % K
-
-  pub is-rule : form ≡ 0 → Rule right ≡ commandOf K w
+  pub is-rule : form ≡ 0 → Rule j ≡ commandOf K w
   unfolding commandOf formed
-  is-rule e = rw (eq-eqb form 0 e)
+  is-rule e = rw (ej, eq-eqb form 0 e)
 
   module _ (a : form ≡ 0 → ⊥) where
-    pub is-relabel : form ≡ 1 → Relabel left right ≡ commandOf K w
+    pub is-relabel : form ≡ 1 → Relabel i j ≡ commandOf K w
     unfolding commandOf formed
-    is-relabel e = rw (ne-eqb form 0 a, eq-eqb form 1 e)
+    is-relabel e = rw (ei, ej, ne-eqb form 0 a, eq-eqb form 1 e)
 
     module _ (b : form ≡ 1 → ⊥) where
-      pub is-head : form ≡ 2 → Connect Head left right ≡ commandOf K w
+      pub is-head : form ≡ 2 → Connect Head i j ≡ commandOf K w
       unfolding commandOf formed
-      is-head e = rw (ne-eqb form 0 a, ne-eqb form 1 b, eq-eqb form 2 e)
+      is-head e = rw (ei, ej, ne-eqb form 0 a, ne-eqb form 1 b, eq-eqb form 2 e)
 
       module _ (d : form ≡ 2 → ⊥) where
-        pub is-positive : form ≡ 3 → Connect Positive left right ≡ commandOf K w
+        pub is-positive : form ≡ 3 → Connect Positive i j ≡ commandOf K w
         unfolding commandOf formed
-        is-positive e = rw (ne-eqb form 0 a, ne-eqb form 1 b, ne-eqb form 2 d, eq-eqb form 3 e)
+        is-positive e = rw (ei, ej, ne-eqb form 0 a, ne-eqb form 1 b, ne-eqb form 2 d, eq-eqb form 3 e)
 
-        pub is-negative : (form ≡ 3 → ⊥) → Connect Negative left right ≡ commandOf K w
+        pub is-negative : (form ≡ 3 → ⊥) → Connect Negative i j ≡ commandOf K w
         unfolding commandOf formed
-        is-negative e = rw (ne-eqb form 0 a, ne-eqb form 1 b, ne-eqb form 2 d, ne-eqb form 3 e)
+        is-negative e = rw (ei, ej, ne-eqb form 0 a, ne-eqb form 1 b, ne-eqb form 2 d, ne-eqb form 3 e)
+
+-- every label is below the number of sets, so it is a digit
+pub digit-fits : (K g : ℕ) → g < K → g < 2 ^ K
+digit-fits (suc K) zero l = pow-pos (suc K)
+digit-fits (suc K) (suc g) l = let h = digit-fits K g (le-of-suc-le-suc l) in omega (arith, h, pow-suc 2 K)
+
+-- the label in a number's lowest digit
+pub label-in : (K x g : ℕ) → g < K → labelIn K (x * 2 ^ K + g) ≡ g
+unfolding labelIn
+label-in K x g l = ap (λ y. min y (K - 1)) (digits-mod x (digit-fits K g l)) ∙ min-eq-left (omega arith)
 
 -- the word of a form and two labels
-pub word-is : (K f i j w : ℕ) → i < K → j < K → w ≡ (f * K + i) * K + j → commandOf K w ≡ formed f i j
+pub word-is : (K f i j w : ℕ) → i < K → j < K → w ≡ (f * 2 ^ K + i) * 2 ^ K + j → commandOf K w ≡ formed f i j
 unfolding commandOf
-word-is K f i j w a b e = rw (e, digits-div (f * K + i) b, digits-mod (f * K + i) b, digits-div f a, digits-mod f a)
+word-is K f i j w a b e = rw (e, digits-div (f * 2 ^ K + i) (digit-fits K j b), digits-div f (digit-fits K i a), label-in K (f * 2 ^ K + i) j b, label-in K f i a)
 
 module _ (K i j w : ℕ) (a : i < K) (b : j < K) where
-  pub head-word : w ≡ (2 * K + i) * K + j → commandOf K w ≡ Connect Head i j
+  pub head-word : w ≡ (2 * 2 ^ K + i) * 2 ^ K + j → commandOf K w ≡ Connect Head i j
   unfolding formed
   head-word e = word-is K 2 i j w a b e
 
-  pub positive-word : w ≡ (3 * K + i) * K + j → commandOf K w ≡ Connect Positive i j
+  pub positive-word : w ≡ (3 * 2 ^ K + i) * 2 ^ K + j → commandOf K w ≡ Connect Positive i j
   unfolding formed
   positive-word e = word-is K 3 i j w a b e
 
-  pub negative-word : w ≡ (4 * K + i) * K + j → commandOf K w ≡ Connect Negative i j
+  pub negative-word : w ≡ (4 * 2 ^ K + i) * 2 ^ K + j → commandOf K w ≡ Connect Negative i j
   unfolding formed
   negative-word e = word-is K 4 i j w a b e
 
-  pub relabel-word : w ≡ (1 * K + i) * K + j → commandOf K w ≡ Relabel i j
+  pub relabel-word : w ≡ (1 * 2 ^ K + i) * 2 ^ K + j → commandOf K w ≡ Relabel i j
   unfolding formed
   relabel-word e = word-is K 1 i j w a b e
 
 pub rule-word : (K g : ℕ) → g < K → commandOf K g ≡ Rule g
 unfolding formed
-rule-word K g b = word-is K 0 0 g g (omega (arith, b)) b (rw (zero-mul K) (omega arith))
+rule-word K g b = word-is K 0 0 g g (omega (arith, b)) b (rw (zero-mul (2 ^ K)) (omega arith))
 
 -- what no batch has
 module _ {c : Command} where

@@ -102,30 +102,28 @@ module _ (K w q r : ℕ) where
   unfolding wordTriple
   by-judge l = rw (le-ltb w (judgesFrom K) l)
 
-module _ (K w q r z : ℕ) where
-  pub command-made : (c : Command) → c ≡ commandOf K w → z ≡ stepTriple K c q r → w < judgesFrom K → z ≡ wordTriple K w q r
-  command-made c e f l = f ∙ ap (λ (d : Command). stepTriple K d q r) e ∙ sym (by-command K w q r l)
-
-  pub judge-made : (j : Judge) → j ≡ judgeOf K w → z ≡ judgeTriple K j q r → judgesFrom K ≤ w → z ≡ wordTriple K w q r
-  judge-made j e f l = f ∙ ap (λ (d : Judge). judgeTriple K d q r) e ∙ sym (by-judge K w q r l)
-
 pub map-same : (f g : ℕ → ℕ) → ((r : ℕ) → f r ≡ g r) → (l : List ℕ) → map f l ≡ map g l
 map-same f g e [] = refl
 map-same f g e (x ∷ l) = ap₂ {C = List ℕ} (λ y m. y ∷ m) (e x) (map-same f g e l)
 
+-- each triple as a word makes it, by what it stands for
 module _ (K w q : ℕ) (l : List ℕ) where
-  pub commands-made : (c : Command) → c ≡ commandOf K w → w < judgesFrom K → map (stepTriple K c q) l ≡ map (wordTriple K w q) l
-  commands-made c e k = map-same (stepTriple K c q) (wordTriple K w q) (λ r. command-made K w q r (stepTriple K c q r) c e refl k) l
+  each-made : (f : ℕ → ℕ) → ((r : ℕ) → f r ≡ wordTriple K w q r) → f q ∷ map f l ≡ wordTriple K w q q ∷ map (wordTriple K w q) l
+  each-made f e = ap₂ {C = List ℕ} (λ y m. y ∷ m) (e q) (map-same f (wordTriple K w q) e l)
 
-  pub judges-made : (j : Judge) → j ≡ judgeOf K w → judgesFrom K ≤ w → map (judgeTriple K j q) l ≡ map (wordTriple K w q) l
-  judges-made j e k = map-same (judgeTriple K j q) (wordTriple K w q) (λ r. judge-made K w q r (judgeTriple K j q r) j e refl k) l
+  pub command-made : (c : Command) → c ≡ commandOf K w → w < judgesFrom K → stepTriple K c q q ∷ map (stepTriple K c q) l ≡ wordStep K w (q ∷ l)
+  unfolding wordStep
+  command-made c e k = each-made (stepTriple K c q) (λ r. ap (λ (d : Command). stepTriple K d q r) e ∙ sym (by-command K w q r k))
+
+  pub judge-made : (j : Judge) → j ≡ judgeOf K w → judgesFrom K ≤ w → judgeTriple K j q q ∷ map (judgeTriple K j q) l ≡ wordStep K w (q ∷ l)
+  unfolding wordStep
+  judge-made j e k = each-made (judgeTriple K j q) (λ r. ap (λ (d : Judge). judgeTriple K d q r) e ∙ sym (by-judge K w q r k))
 
 -- the next word of those left
-pub next-word : (K : ℕ) (goal code : List ℕ) (k : ℕ) → k < length code → (own : ℕ) (run : List ℕ) → wordSteps K (drop k code) (own ∷ run) ≡ goal
-    → (own' : ℕ) (run' : List ℕ) → own' ≡ wordTriple K (getD code k 0) own own → run' ≡ map (wordTriple K (getD code k 0) own) run
-    → wordSteps K (drop (k + 1) code) (own' ∷ run') ≡ goal
-unfolding wordSteps wordStep
-next-word K goal code k l own run h own' run' eo er = rw (eo, er, add-one k) (rw (drop-cons code k 0 l) at h)
+pub next-word : (K : ℕ) (goal code : List ℕ) (k : ℕ) → k < length code → (x y : List ℕ) → wordSteps K (drop k code) x ≡ goal → y ≡ wordStep K (getD code k 0) x
+    → wordSteps K (drop (k + 1) code) y ≡ goal
+unfolding wordSteps
+next-word K goal code k l x y h e = rw (e, add-one k) (rw (drop-cons code k 0 l) at h)
 
 -- none is left
 pub no-words : (K : ℕ) (code : List ℕ) (k : ℕ) → length code ≤ k → (x goal : List ℕ) → wordSteps K (drop k code) x ≡ goal → x ≡ goal

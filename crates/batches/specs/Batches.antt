@@ -1,7 +1,7 @@
 -- Several commands on a pair at once: relabels, connects and unions with a rule, over K labels; and a rule with its connects as one word. Assumes nothing.
 use mathlib.Core.Bool.{Bool, cond, not, _||_}
 use mathlib.Core.List.{List, [], _∷_, map}
-use Prim.Native.Nat.{ℕ, _+_, _*_, _/_, _%_, _^_, _<_}
+use Prim.Native.Nat.{ℕ, _+_, _-_, _*_, _/_, _%_, _^_, _<_, min}
 use lib.Dec.{eqb, ltb}
 use lib.Bits.{bitAnd, bitOr}
 use Rattle.lists.specs.Sorted.{setOf}
@@ -33,7 +33,11 @@ JoinsBy Pass = ⊥
 abbrev pub Joins : Command → Type 0
 Joins c = JoinsBy (effect c)
 
--- the command that a word stands for: its form and two labels, in base K
+-- a label in a word: K of its digits, so that no division is needed; a number that is no label stands for the last one
+unfoldable pub labelIn : ℕ → ℕ → ℕ
+labelIn K x = min (x % 2 ^ K) (K - 1)
+
+-- the command that a word stands for: its form and two labels
 unfoldable pub formed : ℕ → ℕ → ℕ → Command
 formed f i j =
     cond (eqb f 0) (Rule j)
@@ -43,7 +47,7 @@ formed f i j =
     (Connect Negative i j))))
 
 unfoldable pub commandOf : ℕ → ℕ → Command
-commandOf K w = formed (w / K / K) (w / K % K) (w % K)
+commandOf K w = formed (w / 2 ^ K / 2 ^ K) (labelIn K (w / 2 ^ K)) (labelIn K w)
 
 abbrev pub commandsOf : List ℕ → List Command
 commandsOf ops = map (commandOf labelCount) ops
@@ -96,15 +100,15 @@ module _ (K : ℕ) where
 
   -- its word, from judgesFrom on: the marks, the labels of negative atoms, its label, the one after, and whether what has its label is left
   abbrev pub judgesFrom : ℕ
-  judgesFrom = K * K * 2 ^ (3 * K)
+  judgesFrom = 2 ^ (5 * K)
 
   unfoldable pub judgeOf : ℕ → Judge
   judgeOf w = record {
     marks = w % 2 ^ (2 * K);
     negative = w / 2 ^ (2 * K) % 2 ^ K;
-    label = w / 2 ^ (3 * K) % K;
-    after = w / 2 ^ (3 * K) / K % K;
-    leaves = w / 2 ^ (3 * K) / K / K / 2 % 2;
+    label = labelIn K (w / 2 ^ (3 * K));
+    after = labelIn K (w / 2 ^ (4 * K));
+    leaves = w / 2 ^ (5 * K) / 2 % 2;
   }
 
   -- what a word makes of a triple: it is that of a rule judged at once, or stands for a command

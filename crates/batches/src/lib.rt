@@ -14,18 +14,19 @@ ghost use Rattle.expression.specs.declared.Command.the-variants.{Connect};
 ghost use Rattle.expression.specs.Commands.{Suits};
 ghost use Rattle.tables.specs.Triples.{markU};
 ghost use Rattle.candidates.specs.Candidates.{pairOf, Readable};
-ghost use Rattle.batches.specs.Batches.{Joins, commandOf, stepTriple, isMet, Fits, settled, judgeOf, judgeTriple, wordTriple, wordSteps, wordsPair};
+ghost use Rattle.batches.specs.Batches.{Joins, labelIn, commandOf, stepTriple, isMet, Fits, settled, judgeOf, judgeTriple, wordStep, wordSteps, wordsPair};
 
-// labels::LABELS at the width of a triple, and at that of a word of code.
+// labels::LABELS at the width of a triple.
 const LABELS: u32 = labels::LABELS as u32;
-
-const BASE: u64 = labels::LABELS as u64;
 
 // How many words a batch has at most.
 pub const BATCH_LIMIT: usize = 64;
 
-// How many sets of labels there are.
+// How many sets of labels there are: the base of a word's digits.
 const SETS: u64 = 1 << LABELS;
+
+// The same at the width of a command's word.
+pub const BASE: u32 = 1 << LABELS;
 
 // Where the labels of negative atoms begin in the word of a rule judged at once.
 pub const NEGATIVES: u64 = 1 << (2 * LABELS);
@@ -33,8 +34,11 @@ pub const NEGATIVES: u64 = 1 << (2 * LABELS);
 // Where its own labels begin.
 pub const RULES: u64 = 1 << (3 * LABELS);
 
+// Where those begin that it is given then.
+const AFTERS: u64 = SETS * RULES;
+
 // The first such word.
-pub const JUDGES: u64 = BASE * BASE * RULES;
+pub const JUDGES: u64 = SETS * AFTERS;
 
 // A rule with atoms put into it, judged at once: the marks of a triple that meet it, the labels of negative atoms, which meet it by the interpretation's
 // own T; its label, and the one it is given then. Where `leaves` is 1 what has its label is left to a later word.
@@ -52,13 +56,24 @@ pub struct Left {
     pub count: usize,
 }
 
+// The label in a word's lowest digit.
+fn label_in(x: u64) -> u32
+    ensures { λ g. ⌜ (g ≡ labelIn labelCount x) × (g < labelCount) ⌝ }
+{
+    let g = (x % SETS) as u32;
+    if g < LABELS {
+        return g;
+    }
+    LABELS - 1
+}
+
 // The command that a word stands for.
 pub fn command_of(w: u64) -> Command
     ensures { λ c. ⌜ c ≡ commandOf labelCount w ⌝ }
 {
-    let j = (w % BASE) as u32;
-    let i = (w / BASE % BASE) as u32;
-    let f = w / BASE / BASE;
+    let j = label_in(w);
+    let i = label_in(w / SETS);
+    let f = w / SETS / SETS;
     if f == 0 {
         return Command::Rule(j);
     }
@@ -80,9 +95,9 @@ fn connect_word(k: Kind, i: u32, j: u32) -> u32
     ensures { λ w. ⌜ commandOf labelCount w ≡ Connect k i j ⌝ }
 {
     match k {
-        Kind::Head => (2 * LABELS + i) * LABELS + j,
-        Kind::Positive => (3 * LABELS + i) * LABELS + j,
-        Kind::Negative => (4 * LABELS + i) * LABELS + j,
+        Kind::Head => (2 * BASE + i) * BASE + j,
+        Kind::Positive => (3 * BASE + i) * BASE + j,
+        Kind::Negative => (4 * BASE + i) * BASE + j,
     }
 }
 
@@ -93,7 +108,7 @@ pub fn word_of(c: Command) -> u32
 {
     match c {
         Command::Rule(g) => g,
-        Command::Relabel(i, j) => (LABELS + i) * LABELS + j,
+        Command::Relabel(i, j) => (BASE + i) * BASE + j,
         Command::Connect(k, i, j) => connect_word(k, i, j),
         Command::Atom(_) => 0,
         Command::Union => 0,
@@ -143,9 +158,9 @@ pub fn judge_of(w: u64) -> Judge
     Judge {
         marks: (w % NEGATIVES) as u32,
         negative: (w / NEGATIVES % SETS) as u32,
-        label: (w / RULES % BASE) as u32,
-        after: (w / RULES / BASE % BASE) as u32,
-        leaves: (w / RULES / BASE / BASE / 2 % 2) as u32,
+        label: label_in(w / RULES),
+        after: label_in(w / AFTERS),
+        leaves: (w / JUDGES / 2 % 2) as u32,
     }
 }
 
@@ -208,28 +223,21 @@ fn judge_words(run: &mut [u32], j: Judge, q: u32)
     }
 }
 
-// What a word makes of a triple r, where q is the interpretation's own.
-fn word_triple(w: u64, q: u32, r: u32) -> u32
-    ensures { λ s. ⌜ s ≡ wordTriple labelCount w q r ⌝ }
+// Each triple, and the interpretation's own q, as the word makes them. The answer is the own one: the word is taken apart once for all of them.
+fn word_all(run: &mut [u32], w: u64, q: u32) -> u32
+    ensures { λ r. ⌜ r ∷ now (run .exit) ≡ wordStep labelCount w (q ∷ now (run .entry)) ⌝ }
 {
     if w < JUDGES {
-        return step_triple(command_of(w), q, r);
+        let c = command_of(w);
+        step_words(run, c, q);
+        return step_triple(c, q, q);
     }
-    judge_triple(judge_of(w), q, r)
+    let j = judge_of(w);
+    judge_words(run, j, q);
+    judge_triple(j, q, q)
 }
 
-// Each triple as the word makes it.
-fn word_all(run: &mut [u32], w: u64, q: u32)
-    ensures { λ _. ⌜ now (run .exit) ≡ map (wordTriple labelCount w q) (now (run .entry)) ⌝ }
-{
-    if w < JUDGES {
-        step_words(run, command_of(w), q);
-    } else {
-        judge_words(run, judge_of(w), q);
-    }
-}
-
-// Each triple, and the interpretation's own, as all words make them. The answer is the own one.
+// The same by all words.
 fn step_all(run: &mut [u32], q: u32, code: &[u64]) -> u32
     ensures { λ r. ⌜ r ∷ now (run .exit) ≡ wordSteps labelCount (now (code .entry)) (q ∷ now (run .entry)) ⌝ }
 {
@@ -237,8 +245,7 @@ fn step_all(run: &mut [u32], q: u32, code: &[u64]) -> u32
     let mut k = 0;
     while k < code.len() {
         let w = code[k];
-        word_all(run, w, own);
-        own = word_triple(w, own, own);
+        own = word_all(run, w, own);
         k += 1;
     }
     own

@@ -1,12 +1,12 @@
 -- The words of rules judged at once: read again, with a command more, in front of another one; and a word for one command. Assumes nothing.
 use mathlib.Core.Path.{_≡_, refl, sym, ap, ap₂, _∙_}
 use mathlib.Core.Bool.{Bool, true, false, not, _||_, or-true, or-false, true≢false}
-use Prim.Native.Nat.{ℕ, _+_, _-_, _*_, _/_, _%_, _^_, _≤_, _<_}
-use native.Mathlib.Nat.{add-mul, mul-assoc, mul-comm, div-div-eq-div-mul}
+use Prim.Native.Nat.{ℕ, suc, _+_, _-_, _*_, _/_, _%_, _^_, _≤_, _<_}
+use native.Mathlib.Nat.{add-mul, mul-assoc, suc-mul}
 use native.Mathlib.Omega.{arith}
 use lib.Arith.{digits-div, digits-mod}
 use lib.Bits.{bitAnd, bitOr, or-lt, and-zero-r}
-use lib.Pow.{pow-lt, pow-add}
+use lib.Pow.{pow-lt, pow-add, shr-shr}
 use lib.Dec.{eqb}
 use Rattle.labels.specs.Sets.{has}
 use Rattle.expression.specs.declared.Kind.{Kind}
@@ -16,29 +16,34 @@ use Rattle.expression.specs.declared.Command.the-variants.{Relabel, Connect}
 use Rattle.tables.specs.Triples.{settles, relabelTriple, connectTriple}
 use Rattle.batches.specs.declared.Judge.{Judge}
 use Rattle.batches.specs.Batches.{commandOf, stepTriple, isMet, Fits, judgesFrom, judgeOf, judgeTriple, wordTriple}
-use Rattle.batches.proofs.Steps.{mark-is, rule-word}
+use Rattle.batches.proofs.Steps.{digit-fits, label-in, mark-is, rule-word}
 use Rattle.batches.proofs.Words.{by-judge}
 use Rattle.fusing.proofs.Judging.{meets-more, connect-more, relabel-more, no-atoms}
 
 pub with-mark : (k a n w : ℕ) → a < 2 ^ k → n < k → k ≤ w → bitOr a ((1 * 2 ^ n) % 2 ^ w) < 2 ^ k
 with-mark k a n w h l m = rw (mark-is n w (omega arith)) (or-lt k a (2 ^ n) h (pow-lt l))
 
+-- a word without one digit more
+higher : (K w k : ℕ) {x d : ℕ} → w / 2 ^ (k * K) ≡ x * 2 ^ K + d → d < 2 ^ K → w / 2 ^ (suc k * K) ≡ x
+higher K w k {x} e l = ap (λ n. w / 2 ^ n) (suc-mul k K) ∙ sym (shr-shr w (k * K) K) ∙ ap (λ z. z / 2 ^ K) e ∙ digits-div x l
+
 -- a rule's word, read again
 pub word-fits : (K m n g h l w : ℕ) → Fits K (record { marks = m; negative = n; label = g; after = h; leaves = l })
-    → w ≡ (((1 + l) * K + h) * K + g) * 2 ^ (3 * K) + n * 2 ^ (2 * K) + m
+    → w ≡ (((1 + l) * 2 ^ K + h) * 2 ^ K + g) * 2 ^ (3 * K) + n * 2 ^ (2 * K) + m
     → judgeOf K w ≡ record { marks = m; negative = n; label = g; after = h; leaves = l }
 unfolding judgeOf
 word-fits K m n g h l w f e =
-    let y : ℕ = (1 + l) * K + h in
-    let x : ℕ = y * K + g in
-    let t : 3 * K ≡ K + 2 * K = omega arith in
-    let p : 2 ^ (3 * K) ≡ 2 ^ K * 2 ^ (2 * K) = ap (λ k. 2 ^ k) t ∙ pow-add 2 K (2 * K) in
+    let y : ℕ = (1 + l) * 2 ^ K + h in
+    let x : ℕ = y * 2 ^ K + g in
+    let p : 2 ^ (3 * K) ≡ 2 ^ K * 2 ^ (2 * K) = ap (λ k. 2 ^ k) (omega arith) ∙ pow-add 2 K (2 * K) in
     let o : w ≡ (x * 2 ^ K + n) * 2 ^ (2 * K) + m = e ∙ ap (λ z. z + n * 2 ^ (2 * K) + m) (ap (λ z. x * z) p ∙ sym (mul-assoc x (2 ^ K) (2 ^ (2 * K)))) ∙ ap (λ z. z + m) (sym (add-mul (x * 2 ^ K) n (2 ^ (2 * K)))) in
-    let u : w / 2 ^ (2 * K) ≡ x * 2 ^ K + n = ap (λ z. z / 2 ^ (2 * K)) o ∙ digits-div (x * 2 ^ K + n) (f .0) in
     let a : w % 2 ^ (2 * K) ≡ m = ap (λ z. z % 2 ^ (2 * K)) o ∙ digits-mod (x * 2 ^ K + n) (f .0) in
-    let v : w / 2 ^ (3 * K) ≡ x = ap (λ z. w / z) (p ∙ mul-comm (2 ^ K) (2 ^ (2 * K))) ∙ sym (div-div-eq-div-mul w (2 ^ (2 * K)) (2 ^ K)) ∙ ap (λ z. z / 2 ^ K) u ∙ digits-div x (f .1) in
+    let u : w / 2 ^ (2 * K) ≡ x * 2 ^ K + n = ap (λ z. z / 2 ^ (2 * K)) o ∙ digits-div (x * 2 ^ K + n) (f .0) in
+    let v : w / 2 ^ (3 * K) ≡ x = higher K w 2 u (f .1) in
+    let t : w / 2 ^ (4 * K) ≡ y = higher K w 3 v (digit-fits K g (f .2)) in
+    let r : w / 2 ^ (5 * K) ≡ 1 + l = higher K w 4 t (digit-fits K h (f .3)) in
     let i : (1 + l) / 2 % 2 ≡ l = omega (arith, f .4) in
-    rw (a, u, v, digits-mod x (f .1), digits-mod y (f .2), digits-div y (f .2), digits-mod (1 + l) (f .3), digits-div (1 + l) (f .3), i)
+    rw (a, u, v, t, r, digits-mod x (f .1), label-in K y g (f .2), label-in K (1 + l) h (f .3), i)
 
 -- ---- atoms put into a rule
 

@@ -1,5 +1,6 @@
 // Words for commands: a rule, the connects that put atoms into it and the relabel behind them become one word, so that a row is gone through once for
 // all of them.
+use batches::BASE;
 use batches::JUDGES;
 use batches::Judge;
 use batches::NEGATIVES;
@@ -27,7 +28,7 @@ fn judge_word(j: Judge) -> u64
     requires { ⌜ Fits labelCount j ⌝ }
     ensures { λ w. ⌜ (judgesFrom labelCount ≤ w) × (judgeOf labelCount w ≡ j) ⌝ }
 {
-    let front = ((1 + j.leaves) * LABELS + j.after) * LABELS + j.label;
+    let front = ((1 + j.leaves) * BASE + j.after) * BASE + j.label;
     front as u64 * RULES + j.negative as u64 * NEGATIVES + j.marks as u64
 }
 

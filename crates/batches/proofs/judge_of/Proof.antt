@@ -1,5 +1,4 @@
 -- `batches::judge_of`.
-use mathlib.Core.Path.{refl}
 use native.Mathlib.Omega.{arith}
 use Rattle.batches.specs.Batches.{judgeOf}
 use borrow.Author.Needs.{needs}
@@ -12,18 +11,21 @@ cast-t3 c = search needs
 cast-t6 : tie.Need-cast-t6
 cast-t6 c = search needs
 
-cast-t9 : tie.Need-cast-t9
-cast-t9 c = search needs
+label-in-requires : tie.Need-label-in-requires
+label-in-requires c κs = search needs
 
-cast-t13 : tie.Need-cast-t13
-cast-t13 c = search needs
+label-in-requires-2 : tie.Need-label-in-requires-2
+label-in-requires-2 c κs = search needs
 
-cast-t19 : tie.Need-cast-t19
-cast-t19 c = search needs
+cast-t14 : tie.Need-cast-t14
+cast-t14 c = search needs
 
 returns : tie.Need-returns
 unfolding judgeOf
-returns c = (refl, (omega arith, omega arith, omega arith, omega arith, omega arith))
+returns c =
+    let g = c .before .label-in .ensures in
+    let h = c .label-in2 .ensures in
+    (rw (g .0, h .0), (omega arith, omega arith, g .1, h .1, omega arith))
 
 pub judge-of-spec : {M : Type 1} → statement M
-judge-of-spec = tie.close (tie.spec cast-t3 cast-t6 cast-t9 cast-t13 cast-t19 returns)
+judge-of-spec = tie.close (tie.spec cast-t3 cast-t6 label-in-requires label-in-requires-2 cast-t14 returns)

@@ -30,9 +30,6 @@ shared-slice-read-w c = omega arith
 word-all-requires : tie.Need-word-all-requires Inv-loop μ-loop
 word-all-requires c κs = search needs
 
-word-triple-requires : tie.Need-word-triple-requires Inv-loop μ-loop
-word-triple-requires c κs = search needs
-
 add-k : tie.Need-add-k Inv-loop μ-loop
 add-k c = omega arith
 
@@ -41,12 +38,12 @@ loop-less c = omega arith
 
 loop-again : tie.Need-loop-again Inv-loop μ-loop
 loop-again c =
-    let u = c .before .before .before in
+    let u = c .before .before in
     let d = u .before .before .before in
     let k = d .before in
     let s = k .before .before .before in
     let q = k .loop .inv in
-    (omega (arith, d .loop-test .taken), u .word-all .kept .0 ∙ q .1, next-word labelCount _ (s .args .code .now) (k .loop .k) (d .loop-test .taken) (k .loop .own) (k .loop .run) (q .2) _ _ (c .word-triple .ensures) (u .word-all .ensures))
+    (omega (arith, d .loop-test .taken), u .word-all .kept .0 ∙ q .1, next-word labelCount _ (s .args .code .now) (k .loop .k) (d .loop-test .taken) _ _ (q .2) (u .word-all .ensures))
 
 same-length : tie.Need-same-length Inv-loop μ-loop
 same-length c = c .before .loop .inv .1
@@ -67,7 +64,6 @@ step-all-spec =
     mul-w
     shared-slice-read-w
     word-all-requires
-    word-triple-requires
     add-k
     loop-less
     loop-again
