@@ -1,4 +1,4 @@
-// A sheet command by command: the oracle's reading, which shares with the engine's only the limits' and refusals' numbers.
+// A sheet command by command: the oracle's reading, which shares with the engine's only the numbers of limits, labels and refusals.
 ghost use Prim.Native.Nat.{_+_, _<_, _≤_};
 ghost use lib.ListN.{length};
 use expression::refusals::CUT;
