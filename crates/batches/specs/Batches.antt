@@ -33,7 +33,7 @@ JoinsBy Pass = ⊥
 abbrev pub Joins : Command → Type 0
 Joins c = JoinsBy (effect c)
 
--- a label in a word: K of its digits, so that no division is needed; a number that is no label stands for the last one
+-- a word has digits in base 2 ^ K: to take one out is no division. The label in the lowest of them; a number that is no label stands for the last one
 unfoldable pub labelIn : ℕ → ℕ → ℕ
 labelIn K x = min (x % 2 ^ K) (K - 1)
 
