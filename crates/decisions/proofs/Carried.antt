@@ -58,7 +58,7 @@ walk-map {X} {Y} {h} {B} {C} H f n (c ∷ cs) ts =
     step zero k = k
     step (suc m) k = refl
 
-conclude-map : {X Y : Type 0} (h : X → Y) (y : List Y → Bool) (w : Walked X) → conclude y (mapWalked h w) ≡ conclude (λ t. y (map h t)) w
+pub conclude-map : {X Y : Type 0} (h : X → Y) (y : List Y → Bool) (w : Walked X) → conclude y (mapWalked h w) ≡ conclude (λ t. y (map h t)) w
 unfolding conclude mapWalked
 conclude-map h y (stopped n at) = refl
 conclude-map h y (walked ts) = ap (λ t. answer (y t)) (newest-map h ts)

@@ -66,7 +66,7 @@ module _ {X Y : Type 0} {A : Algebra X} {B : Algebra Y} {h : X → Y} (M : Morph
       step false true = ap {B = List Y} (λ y. y ∷ []) (M .present c g)
       step false false = ap₂ {C = List Y} (λ y z. y ∷ z ∷ []) (M .present c g) (M .absent c g)
 
-  map-each : (f : X → X) (g : Y → Y) → ((x : X) → h (f x) ≡ g (h x)) → (l : List X) → map h (map f l) ≡ map g (map h l)
+  pub map-each : (f : X → X) (g : Y → Y) → ((x : X) → h (f x) ≡ g (h x)) → (l : List X) → map h (map f l) ≡ map g (map h l)
   map-each f g k [] = refl
   map-each f g k (x ∷ xs) = ap₂ {C = List Y} (λ y l. y ∷ l) (k x) (map-each f g k xs)
 

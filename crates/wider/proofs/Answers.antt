@@ -24,26 +24,26 @@ use Rattle.tables.specs.Algebras.{Algebra, tables}
 use Rattle.tables.specs.Triples.{allMet}
 use Rattle.tables.specs.Definitions.{Pair, ownTriple, subsets, pairs, plainAccepts, accepting, groundedAccepts}
 use Rattle.tables.proofs.Morphisms.{tables-map}
-use Rattle.decisions.specs.Decisions.{assumed, commandsIn, pairsFault, plainFault, newest, Walked, stopped, walked, walk, answer, conclude, decide, grounded, plain, treeOf, expressionOf}
+use Rattle.decisions.specs.Decisions.{assumed, commandsIn, pairsFault, plainFault, newest, Walked, stopped, walk, conclude, decide, grounded, plain, treeOf, expressionOf}
 use Rattle.decisions.specs.First.{leaving, keeping, chosen, firstMask}
 use Rattle.decisions.specs.Outcomes.{withMask, withoutMask, groundedOutcome, plainOutcome}
 use Rattle.decisions.specs.Exceeding.{tableAfter}
-use Rattle.decisions.proofs.Carried.{mapWalked, newest-map, walk-map, decide-passed, grounded-refused}
+use Rattle.decisions.proofs.Carried.{mapWalked, newest-map, walk-map, conclude-map, decide-passed, grounded-refused}
 use Rattle.decisions.proofs.Walks.{commands-suit}
 use Rattle.wider.specs.Layouts.{labelsBefore, laidOut}
 use Rattle.wider.proofs.Checks.{check-wider, passed-wider}
-use Rattle.wider.proofs.Guards.{guarded, act-guarded, MorphismBelow, actAll-carried}
+use Rattle.wider.proofs.Restrictions.{restricted, act-restricted, MorphismBelow, actAll-carried}
 use Rattle.wider.proofs.Laid.{laid-met, laid-own, laid-subsets, triples-wider, pairs-wider}
 
 -- ---- walks by commands whose labels are below K
 
-walk-guarded : {X : Type 0} (K : ℕ) (none : X) (A : Algebra X) (o : Assumptions) (f : List X → ℕ) (n : ℕ) (cs : List Placed) → All (Suits K) (commandsOf cs)
-    → (ts : List (List X)) → walk (tables (guarded K none A) o) f n cs ts ≡ walk (tables A o) f n cs ts
+walk-restricted : {X : Type 0} (K : ℕ) (none : X) (A : Algebra X) (o : Assumptions) (f : List X → ℕ) (n : ℕ) (cs : List Placed) → All (Suits K) (commandsOf cs)
+    → (ts : List (List X)) → walk (tables (restricted K none A) o) f n cs ts ≡ walk (tables A o) f n cs ts
 unfolding walk
-walk-guarded K none A o f n [] s ts = refl
-walk-guarded {X} K none A o f n (c ∷ cs) s ts =
-    ap (λ us. goes us (walk (tables (guarded K none A) o) f (n + newAtoms (c .command)) cs us)) (act-guarded K none A o n (c .command) (s .0) ts)
-    ∙ ap (goes vs) (walk-guarded K none A o f (n + newAtoms (c .command)) cs (s .1) vs)
+walk-restricted K none A o f n [] s ts = refl
+walk-restricted {X} K none A o f n (c ∷ cs) s ts =
+    ap (λ us. goes us (walk (tables (restricted K none A) o) f (n + newAtoms (c .command)) cs us)) (act-restricted K none A o n (c .command) (s .0) ts)
+    ∙ ap (goes vs) (walk-restricted K none A o f (n + newAtoms (c .command)) cs (s .1) vs)
   where
     vs : List (List X)
     vs = act (tables A o) n (c .command) ts
@@ -54,8 +54,8 @@ walk-guarded {X} K none A o f n (c ∷ cs) s ts =
 walk-carried : {X Y : Type 0} {K : ℕ} {A : Algebra X} {B : Algebra Y} {h : X → Y} → MorphismBelow K A B h → (o : Assumptions) (f : List Y → ℕ) (cs : List Placed)
     → All (Suits K) (commandsOf cs) → walk (tables B o) f 0 cs [] ≡ mapWalked h (walk (tables A o) (λ t. f (map h t)) 0 cs [])
 walk-carried {K = K} {A = A} {B = B} {h = h} M o f cs s =
-    sym (walk-guarded K (M .none′) B o f 0 cs s []) ∙ walk-map (tables-map (M .morphism) o) f 0 cs []
-    ∙ ap (mapWalked h) (walk-guarded K (M .none) A o (λ t. f (map h t)) 0 cs s [])
+    sym (walk-restricted K (M .none′) B o f 0 cs s []) ∙ walk-map (tables-map (M .morphism) o) f 0 cs []
+    ∙ ap (mapWalked h) (walk-restricted K (M .none) A o (λ t. f (map h t)) 0 cs s [])
 
 -- ---- a decision whose checks say the same over K labels and over L
 
@@ -65,18 +65,14 @@ module _ {X Y : Type 0} (K L : ℕ) (wide : K ≤ L) {A : Algebra X} {B : Algebr
   unfolding decide
   decide-wider a alike f g same y v says = step (check K a) refl
     where
-      concludes : (w : Walked X) → conclude y (mapWalked h w) ≡ conclude v w
-      concludes (stopped n at) = unfold conclude mapWalked in refl
-      concludes (walked ts) = unfold conclude mapWalked in ap answer (ap y (newest-map h ts) ∙ says (newest ts))
-
       step : (c : Checked) → check K a ≡ c → decide B f y L a ≡ decide A g v K a
       step (Refused n at) e = rw (alike ∙ e, e, decide) refl
       step (Passed z) e =
           let cs = commandsIn (reading K (a .bytes)) in
           decide-passed B f y L a (alike ∙ e)
           ∙ ap (conclude y) (ap (λ r. walk (tables B (assumed a)) f 0 (commandsIn r) []) (passed-wider K L wide a e) ∙ walk-carried M (assumed a) f cs (commands-suit K a e))
-          ∙ concludes (walk (tables A (assumed a)) (λ t. f (map h t)) 0 cs [])
-          ∙ ap (λ k. conclude v (walk (tables A (assumed a)) k 0 cs [])) (fun-ext same)
+          ∙ conclude-map h y (walk (tables A (assumed a)) (λ t. f (map h t)) 0 cs [])
+          ∙ ap₂ (λ k u. conclude u (walk (tables A (assumed a)) k 0 cs [])) (fun-ext same) (fun-ext says)
           ∙ sym (decide-passed A g v K a e)
 
 some-map : {X Y : Type 0} (h : X → Y) (f : Y → Bool) (g : X → Bool) → ((x : X) → f (h x) ≡ g x) → (xs : List X) → some f (map h xs) ≡ some g xs

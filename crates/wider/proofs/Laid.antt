@@ -3,7 +3,7 @@
 use mathlib.Core.Path.{_≡_, refl, sym, ap, ap₂, _∙_, subst, fun-ext}
 use mathlib.Core.Logic.{inl}
 use mathlib.Core.Bool.{Bool, true, false, cond}
-use mathlib.Core.List.{List, [], _∷_, _++_, map, map-map, map-append}
+use mathlib.Core.List.{List, [], _∷_, _++_, map, map-append}
 use Prim.Native.Nat.{ℕ, _+_, _-_, _*_, _/_, _%_, _^_, _≤_, _<_}
 use native.Mathlib.Nat.{mul-assoc, add-mul, add-zero}
 use native.Mathlib.Omega.{arith}
@@ -20,10 +20,10 @@ use Rattle.expression.specs.declared.Kind.{Kind}
 use Rattle.expression.specs.declared.Kind.the-variants.{Head, Positive, Negative}
 use Rattle.tables.specs.Triples.{markT, markF, markU, relabelTriple, settles, connectTriple, allMet}
 use Rattle.tables.specs.Definitions.{Pair, ownTriple, subsets, unitePairs, mapPair, triples, pairs}
-use Rattle.tables.proofs.Morphisms.{Morphism, map-canon}
+use Rattle.tables.proofs.Morphisms.{Morphism, map-canon, map-each}
 use Rattle.wider.specs.Layouts.{laidOut}
 use Rattle.wider.proofs.Moves.{Moves, moved-none, moved-or, moved-pow, moved-without, moved-replace, moved-order, raised, raisedPlace, raised-moves}
-use Rattle.wider.proofs.Guards.{guarded, MorphismBelow, guard-one, guard-two}
+use Rattle.wider.proofs.Restrictions.{restricted, MorphismBelow, restricted-one, restricted-two}
 
 -- ---- triples
 
@@ -126,15 +126,15 @@ module _ (K L : ℕ) (wide : K ≤ L) where
       less-by (laid q) (2 ^ (2 * L)) ∙ ap (λ o. byOrder o true false false) (ap (compareNumbers (laid q)) top ∙ laid-order q (2 ^ (2 * K))) ∙ sym (less-by q (2 ^ (2 * K)))
 
   -- Definition 5
-  carries-triples : Morphism (guarded K 0 (triples K)) (guarded K 0 (triples L)) laid
-  unfolding guarded triples
+  carries-triples : Morphism (restricted K 0 (triples K)) (restricted K 0 (triples L)) laid
+  unfolding restricted triples
   carries-triples = record {
-    present = λ c g. guard-one K laid laid-none g (laid-T g);
-    absent = λ c g. guard-one K laid laid-none g (laid-F g);
-    unmet = λ g. guard-one K laid laid-none g (λ a. laid-U g);
+    present = λ c g. restricted-one K laid laid-none g (laid-T g);
+    absent = λ c g. restricted-one K laid laid-none g (laid-F g);
+    unmet = λ g. restricted-one K laid laid-none g (λ a. laid-U g);
     united = laid-or;
-    relabelled = λ i j q. guard-two K laid q i j (λ a b. laid-relabel i j a b q);
-    connected = λ k i j q. guard-two K laid q i j (λ a b. laid-connect k i j a q q);
+    relabelled = λ i j q. restricted-two K laid q i j (λ a b. laid-relabel i j a b q);
+    connected = λ k i j q. restricted-two K laid q i j (λ a b. laid-connect k i j a q q);
     order = laid-order;
     merge = λ q r. refl;
   }
@@ -142,7 +142,7 @@ module _ (K L : ℕ) (wide : K ≤ L) where
   -- ---- pairs
 
   pub laid-set : (s : List ℕ) → map laid (setOf s) ≡ setOf (map laid s)
-  unfolding setOf guarded triples
+  unfolding setOf restricted triples
   laid-set s = map-canon carries-triples s
 
   pub laid-lists : (x y : List ℕ) → compareLists (map laid x) (map laid y) ≡ compareLists x y
@@ -160,9 +160,6 @@ module _ (K L : ℕ) (wide : K ≤ L) where
   laid-subsets [] = refl
   laid-subsets (q ∷ s) = refl
 
-  laid-each : (f g : ℕ → ℕ) → ((q : ℕ) → laid (f q) ≡ g (laid q)) → (s : List ℕ) → map laid (map f s) ≡ map g (map laid s)
-  laid-each f g e s = map-map laid f s ∙ ap (λ (k : ℕ → ℕ). map k s) (fun-ext e) ∙ sym (map-map g laid s)
-
   laid-unite : (x y : Pair) → map laid (unitePairs x y) ≡ unitePairs (map laid x) (map laid y)
   unfolding unitePairs
   laid-unite x y =
@@ -175,24 +172,24 @@ module _ (K L : ℕ) (wide : K ≤ L) where
           map-append laid (products bitOr s t ++ map (bitOr q) t) (map (λ z. bitOr z r) s)
           ∙ ap₂ _++_
           (map-append laid (products bitOr s t) (map (bitOr q) t)
-          ∙ ap₂ _++_ (sym (products-map laid laid bitOr bitOr laid s t (λ a b m n. sym (laid-or a b)))) (laid-each (bitOr q) (bitOr (laid q)) (laid-or q) t))
-          (laid-each (λ z. bitOr z r) (λ z. bitOr z (laid r)) (λ z. laid-or z r) s)
+          ∙ ap₂ _++_ (sym (products-map laid laid bitOr bitOr laid s t (λ a b m n. sym (laid-or a b)))) (map-each carries-triples (bitOr q) (bitOr (laid q)) (laid-or q) t))
+          (map-each carries-triples (λ z. bitOr z r) (λ z. bitOr z (laid r)) (λ z. laid-or z r) s)
 
   laid-map : (q r : ℕ) (f g : ℕ → ℕ) (x : Pair) → laid q ≡ r → ((s : ℕ) → laid (f s) ≡ g (laid s)) → map laid (mapPair q f x) ≡ mapPair r g (map laid x)
   unfolding mapPair
-  laid-map q r f g x k e = ap₂ {C = Pair} _∷_ k (laid-set (map f (subsets x)) ∙ ap setOf (laid-each f g e (subsets x) ∙ ap (map g) (sym (laid-subsets x))))
+  laid-map q r f g x k e = ap₂ {C = Pair} _∷_ k (laid-set (map f (subsets x)) ∙ ap setOf (map-each carries-triples f g e (subsets x) ∙ ap (map g) (sym (laid-subsets x))))
 
   -- Definition 8
-  carries-pairs : Morphism (guarded K [] (pairs K)) (guarded K [] (pairs L)) (map laid)
-  unfolding guarded pairs
+  carries-pairs : Morphism (restricted K [] (pairs K)) (restricted K [] (pairs L)) (map laid)
+  unfolding restricted pairs
   carries-pairs = record {
-    present = λ c g. guard-one K (map laid) refl g (λ a. ap₂ {C = Pair} (λ q r. q ∷ r ∷ []) (laid-T g a) (laid-F g a));
-    absent = λ c g. guard-one K (map laid) refl g (λ a. ap {B = Pair} (λ q. q ∷ []) (laid-F g a));
-    unmet = λ g. guard-one K (map laid) refl g (λ a. ap {B = Pair} (λ q. q ∷ []) (laid-U g));
+    present = λ c g. restricted-one K (map laid) refl g (λ a. ap₂ {C = Pair} (λ q r. q ∷ r ∷ []) (laid-T g a) (laid-F g a));
+    absent = λ c g. restricted-one K (map laid) refl g (λ a. ap {B = Pair} (λ q. q ∷ []) (laid-F g a));
+    unmet = λ g. restricted-one K (map laid) refl g (λ a. ap {B = Pair} (λ q. q ∷ []) (laid-U g));
     united = laid-unite;
-    relabelled = λ i j x. guard-two K (map laid) x i j
+    relabelled = λ i j x. restricted-two K (map laid) x i j
         (λ a b. laid-map _ _ _ (relabelTriple L i j) x (laid-relabel i j a b (ownTriple x) ∙ ap (relabelTriple L i j) (sym (laid-own x))) (laid-relabel i j a b));
-    connected = λ k i j x. guard-two K (map laid) x i j
+    connected = λ k i j x. restricted-two K (map laid) x i j
         (λ a b. laid-map _ _ _ (connectTriple L k i j (ownTriple (map laid x))) x
         (laid-connect k i j a (ownTriple x) (ownTriple x) ∙ ap (λ q. connectTriple L k i j q q) (sym (laid-own x)))
         (λ s. laid-connect k i j a (ownTriple x) s ∙ ap (λ q. connectTriple L k i j q (laid s)) (sym (laid-own x))));

@@ -1,5 +1,5 @@
 pub mod Checks
 pub mod Moves
-pub mod Guards
+pub mod Restrictions
 pub mod Laid
 pub mod Answers

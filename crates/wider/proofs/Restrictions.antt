@@ -21,8 +21,8 @@ use Rattle.tables.proofs.Morphisms.{Morphism, tables-map}
 -- ---- an algebra that does nothing for labels from K on: marks of K labels collide there
 
 module _ {X : Type 0} (K : ℕ) (none : X) where
-  unfoldable pub guarded : Algebra X → Algebra X
-  guarded A = record {
+  unfoldable pub restricted : Algebra X → Algebra X
+  restricted A = record {
     present = λ c g. cond (ltb g K) (A .present c g) none;
     absent = λ c g. cond (ltb g K) (A .absent c g) none;
     unmet = λ g. cond (ltb g K) (A .unmet g) none;
@@ -34,30 +34,30 @@ module _ {X : Type 0} (K : ℕ) (none : X) where
   }
 
   module _ (A : Algebra X) where
-    change-guarded : (f : X → X) (i j : ℕ) → (i < K) × (j < K) → (ts : List (List X))
+    change-restricted : (f : X → X) (i j : ℕ) → (i < K) × (j < K) → (ts : List (List X))
         → changeNewest (λ t. canon (A .order) (A .merge) (map (λ x. cond (ltb i K) (cond (ltb j K) (f x) x) x) t)) ts ≡ changeNewest (λ t. canon (A .order) (A .merge) (map f t)) ts
-    change-guarded f i j (a, b) ts =
+    change-restricted f i j (a, b) ts =
         ap₂ (λ d e. changeNewest (λ t. canon (A .order) (A .merge) (map (λ x. cond d (cond e (f x) x) x) t)) ts) (lt-ltb i K a) (lt-ltb j K b)
 
     -- a command whose labels are below K does the same
-    pub act-guarded : (o : Assumptions) (n : ℕ) (c : Command) → Suits K c → (ts : List (List X)) → act (tables (guarded A) o) n c ts ≡ act (tables A o) n c ts
-    unfolding guarded tables leaf act Suits
-    act-guarded o n (Atom g) s ts = rw (lt-ltb g K s) refl
-    act-guarded o n (Rule g) s ts = rw (lt-ltb g K s) refl
-    act-guarded o n Union s ts = refl
-    act-guarded o n (Relabel i j) s ts = change-guarded (A .relabelled i j) i j s ts
-    act-guarded o n (Connect k i j) s ts = change-guarded (A .connected k i j) i j s ts
+    pub act-restricted : (o : Assumptions) (n : ℕ) (c : Command) → Suits K c → (ts : List (List X)) → act (tables (restricted A) o) n c ts ≡ act (tables A o) n c ts
+    unfolding restricted tables leaf act Suits
+    act-restricted o n (Atom g) s ts = rw (lt-ltb g K s) refl
+    act-restricted o n (Rule g) s ts = rw (lt-ltb g K s) refl
+    act-restricted o n Union s ts = refl
+    act-restricted o n (Relabel i j) s ts = change-restricted (A .relabelled i j) i j s ts
+    act-restricted o n (Connect k i j) s ts = change-restricted (A .connected k i j) i j s ts
 
 -- h carries A to B where labels are below K
 pub record MorphismBelow (K : ℕ) {X Y : Type 0} (A : Algebra X) (B : Algebra Y) (h : X → Y) : Type 0 where
   pub none : X
   pub none′ : Y
-  pub morphism : Morphism (guarded K none A) (guarded K none′ B) h
+  pub morphism : Morphism (restricted K none A) (restricted K none′ B) h
 
 module _ {K : ℕ} {X Y : Type 0} {A : Algebra X} {B : Algebra Y} {h : X → Y} (M : MorphismBelow K A B h) (o : Assumptions) where
   act-carried : (n : ℕ) (c : Command) → Suits K c → (ts : List (List X)) → act (tables B o) n c (map (map h) ts) ≡ map (map h) (act (tables A o) n c ts)
   act-carried n c s ts =
-      sym (act-guarded K (M .none′) B o n c s (map (map h) ts)) ∙ sym (act-map (tables-map (M .morphism) o) n c ts) ∙ ap (map (map h)) (act-guarded K (M .none) A o n c s ts)
+      sym (act-restricted K (M .none′) B o n c s (map (map h) ts)) ∙ sym (act-map (tables-map (M .morphism) o) n c ts) ∙ ap (map (map h)) (act-restricted K (M .none) A o n c s ts)
 
   -- then the tables of B are those of A, carried
   pub actAll-carried : (n : ℕ) (cs : List Command) → All (Suits K) cs → (ts : List (List X)) → actAll (tables B o) n cs (map (map h) ts) ≡ map (map h) (actAll (tables A o) n cs ts)
@@ -65,14 +65,14 @@ module _ {K : ℕ} {X Y : Type 0} {A : Algebra X} {B : Algebra Y} {h : X → Y} 
   actAll-carried n [] s ts = refl
   actAll-carried n (c ∷ cs) s ts = ap (actAll (tables B o) (n + newAtoms c) cs) (act-carried n c (s .0) ts) ∙ actAll-carried (n + newAtoms c) cs (s .1) (act (tables A o) n c ts)
 
--- what is carried below K, and else, is carried by the guard
-pub guard-one : {X Y : Type 0} (K : ℕ) (h : X → Y) {x z : X} {y w : Y} → h z ≡ w → (g : ℕ) → (g < K → h x ≡ y) → h (cond (ltb g K) x z) ≡ cond (ltb g K) y w
-guard-one K h {x} {z} {y} {w} else g f = step (ltb g K) refl
+-- what is carried below K, and else, is carried by the restricted algebras
+pub restricted-one : {X Y : Type 0} (K : ℕ) (h : X → Y) {x z : X} {y w : Y} → h z ≡ w → (g : ℕ) → (g < K → h x ≡ y) → h (cond (ltb g K) x z) ≡ cond (ltb g K) y w
+restricted-one K h {x} {z} {y} {w} else g f = step (ltb g K) refl
   where
     step : (b : Bool) → ltb g K ≡ b → h (cond b x z) ≡ cond b y w
     step true e = f (ltb-true g K e)
     step false e = else
 
-pub guard-two : {X Y : Type 0} (K : ℕ) (h : X → Y) {x : X} {y : Y} (z : X) (i j : ℕ) → (i < K → j < K → h x ≡ y)
+pub restricted-two : {X Y : Type 0} (K : ℕ) (h : X → Y) {x : X} {y : Y} (z : X) (i j : ℕ) → (i < K → j < K → h x ≡ y)
     → h (cond (ltb i K) (cond (ltb j K) x z) z) ≡ cond (ltb i K) (cond (ltb j K) y (h z)) (h z)
-guard-two K h z i j f = guard-one K h refl i (λ a. guard-one K h refl j (f a))
+restricted-two K h z i j f = restricted-one K h refl i (λ a. restricted-one K h refl j (f a))
