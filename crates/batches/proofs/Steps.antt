@@ -14,7 +14,7 @@ use lib.ListN.{length, getD}
 use Rattle.expression.specs.declared.Kind.{Kind}
 use Rattle.expression.specs.declared.Kind.the-variants.{Head, Positive, Negative}
 use Rattle.expression.specs.declared.Command.{Command}
-use Rattle.expression.specs.declared.Command.the-variants.{Atom, Rule, Union, Relabel, Connect}
+use Rattle.expression.specs.declared.Command.the-variants.{Atom, Rule, Union, Relabel, Connect, Name}
 use Rattle.expression.specs.Commands.{Suits}
 use Rattle.expression.specs.Effects.{effect}
 use Rattle.tables.specs.Triples.{markU}
@@ -115,6 +115,10 @@ module _ {c : Command} where
   unfolding effect
   no-union e h = rw e at h
 
+  pub no-name : (at : ℕ) → c ≡ Name at → Joins c → ⊥
+  unfolding effect
+  no-name at e h = rw e at h
+
 -- a step, by the command's form
 module _ (K : ℕ) (c : Command) where
   pub rule-label : {g : ℕ} → c ≡ Rule g → Suits K c → g < K
@@ -140,6 +144,10 @@ module _ (K : ℕ) (c : Command) where
   pub union-steps : (q r : ℕ) → c ≡ Union → r ≡ stepTriple K c q r
   unfolding stepTriple
   union-steps q r e = rw e
+
+  pub name-steps : (at q r : ℕ) → c ≡ Name at → r ≡ stepTriple K c q r
+  unfolding stepTriple
+  name-steps at q r e = rw e
 
 -- one mark in a word of w digits
 pub mark-is : (n w : ℕ) → n < w → (1 * 2 ^ n) % 2 ^ w ≡ 2 ^ n

@@ -9,7 +9,7 @@ use Rattle.labels.specs.Labels.{labelCount}
 use Rattle.labels.specs.Sets.{without}
 use Rattle.expression.specs.declared.Kind.the-variants.{Head, Positive, Negative}
 use Rattle.expression.specs.declared.Command.{Command}
-use Rattle.expression.specs.declared.Command.the-variants.{Atom, Rule, Union, Relabel, Connect}
+use Rattle.expression.specs.declared.Command.the-variants.{Atom, Rule, Union, Relabel, Connect, Name}
 use Rattle.expression.specs.declared.Leaf.the-variants as leaf
 use Rattle.expression.specs.declared.Effect.{Effect}
 use Rattle.expression.specs.declared.Effect.the-variants.{Push, Unite, Change, Pass}
@@ -64,6 +64,7 @@ module _ (K : ℕ) where
   stepTriple (Connect k i j) q r = connectTriple K k i j q r
   stepTriple (Atom g) q r = r
   stepTriple Union q r = r
+  stepTriple (Name at) q r = r
 
   -- and of an own triple with others behind it, in no order
   unfoldable pub step : Command → List ℕ → List ℕ

@@ -112,6 +112,7 @@ pub fn word_of(c: Command) -> u32
         Command::Connect(k, i, j) => connect_word(k, i, j),
         Command::Atom(_) => 0,
         Command::Union => 0,
+        Command::Name(_) => 0,
     }
 }
 
@@ -134,6 +135,7 @@ fn step_triple(c: Command, q: u32, r: u32) -> u32
         Command::Connect(_, _, _) => candidates::map_triple(c, q, r),
         Command::Atom(_) => r,
         Command::Union => r,
+        Command::Name(_) => r,
     }
 }
 

@@ -5,7 +5,7 @@ use Prim.Native.Nat.{ℕ, _+_, _*_, _%_, _^_, _<_}
 use Rattle.labels.proofs.Masks.{less, less-digit}
 use Rattle.expression.specs.declared.Kind.{Kind}
 use Rattle.expression.specs.declared.Command.{Command}
-use Rattle.expression.specs.declared.Command.the-variants.{Atom, Rule, Union, Relabel, Connect}
+use Rattle.expression.specs.declared.Command.the-variants.{Atom, Rule, Union, Relabel, Connect, Name}
 use Rattle.expression.specs.Commands.{Suits}
 use Rattle.tables.specs.Triples.{settles, relabelTriple, connectTriple}
 use Rattle.candidates.specs.Candidates.{mapTriple}
@@ -39,3 +39,7 @@ module _ (K : ℕ) (c : Command) where
   pub union-leaves : (q r : ℕ) → c ≡ Union → r ≡ mapTriple K c q r
   unfolding mapTriple
   union-leaves q r e = rw e
+
+  pub name-leaves : (at q r : ℕ) → c ≡ Name at → r ≡ mapTriple K c q r
+  unfolding mapTriple
+  name-leaves at q r e = rw e

@@ -4,7 +4,7 @@ use mathlib.Core.List.{List, _∷_}
 use Prim.Native.Nat.{ℕ, _+_, _≤_, _<_}
 use lib.ListN.{length, take, drop, getD}
 use Rattle.expression.specs.declared.Command.{Command}
-use Rattle.expression.specs.declared.Command.the-variants.{Atom, Rule, Union, Relabel, Connect}
+use Rattle.expression.specs.declared.Command.the-variants.{Atom, Rule, Union, Relabel, Connect, Name}
 use Rattle.tables.specs.Triples.{relabelTriple, connectTriple}
 use Rattle.tables.specs.Definitions.{Pair}
 
@@ -28,3 +28,4 @@ mapTriple K (Rule g) q r = r
 mapTriple K Union q r = r
 mapTriple K (Relabel i j) q r = relabelTriple K i j r
 mapTriple K (Connect k i j) q r = connectTriple K k i j q r
+mapTriple K (Name at) q r = r

@@ -54,6 +54,7 @@ pub fn map_triple(c: Command, q: u32, r: u32) -> u32
         Command::Atom(_) => r,
         Command::Rule(_) => r,
         Command::Union => r,
+        Command::Name(_) => r,
     }
 }
 

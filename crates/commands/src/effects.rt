@@ -14,5 +14,6 @@ pub fn effect(c: Command) -> Effect
         Command::Union => Effect::Unite,
         Command::Relabel(_, _) => Effect::Change,
         Command::Connect(_, _, _) => Effect::Change,
+        Command::Name(_) => Effect::Pass,
     }
 }

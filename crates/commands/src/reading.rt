@@ -1,14 +1,18 @@
 // One command from bytes (01, "The sheet").
 ghost use mathlib.Core.Path.{_≡_};
 ghost use mathlib.Core.Bool.{cond, _||_};
-ghost use lib.Dec.{eqb, leb};
+ghost use Prim.Native.Nat.{_+_, _-_, _<_};
+ghost use lib.Dec.{eqb, ltb, leb};
 ghost use Rattle.labels.specs.Labels.{labelCount};
 ghost use Rattle.expression.specs.declared.Read.the-variants.{Command as Got, Fault};
-ghost use Rattle.expression.specs.Refusals.{group, same};
-ghost use Rattle.expression.specs.Commands.{operandCount, commandOf, readAt};
+ghost use Rattle.expression.specs.declared.Command.the-variants.{Name};
+ghost use Rattle.expression.specs.Limits.{nameLength};
+ghost use Rattle.expression.specs.Refusals.{unknown, cut, group, same};
+ghost use Rattle.expression.specs.Commands.{isName, operandCount, commandOf, readAt};
 use expression::Command;
 use expression::Kind;
 use expression::Read;
+use expression::limits::NAME_LENGTH;
 use expression::refusals::CUT;
 use expression::refusals::GROUP;
 use expression::refusals::SAME;
@@ -28,7 +32,7 @@ pub fn read_at(s: &[u8], at: usize) -> Read
     }
     let n = operand_count(b);
     if n == 0 {
-        return Read::Fault(UNKNOWN);
+        return read_name(b, at, s.len());
     }
     if s.len() - at <= n {
         return Read::Fault(CUT);
@@ -38,6 +42,20 @@ pub fn read_at(s: &[u8], at: usize) -> Read
         return read_leaf(b, i, at + 2);
     }
     read_pair(b, i, s[at + 2], at + 3)
+}
+
+// A byte without operands at an offset of so many bytes: a name, or tests 5 and 6. What a name's bytes are is not looked at (02, Item 1).
+fn read_name(b: u8, at: usize, len: usize) -> Read
+    requires { ⌜ at < len ⌝ }
+    ensures { λ r. ⌜ r ≡ cond (isName b) (cond (ltb (len - at) (1 + nameLength)) (Fault cut) (Got (Name (at + 1)) (at + (1 + nameLength)))) (Fault unknown) ⌝ }
+{
+    if b != 0x51 {
+        return Read::Fault(UNKNOWN);
+    }
+    if len - at <= NAME_LENGTH {
+        return Read::Fault(CUT);
+    }
+    Read::Command(Command::Name(at + 1), at + (1 + NAME_LENGTH))
 }
 
 // An atom or a rule of label g: test 7.
@@ -66,7 +84,7 @@ fn read_pair(b: u8, i: u8, j: u8, next: usize) -> Read
     Read::Command(command_of(b, i, j), next)
 }
 
-// How many operands a command byte has; 0 for any other byte.
+// How many operands a command byte has; 0 for one that has none, and for any other byte.
 fn operand_count(b: u8) -> usize
     ensures { λ r. ⌜ r ≡ operandCount b ⌝ }
 {

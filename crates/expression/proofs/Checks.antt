@@ -16,11 +16,11 @@ use Rattle.expression.specs.declared.Read.the-variants.{Command as Got, 
 use Rattle.expression.specs.declared.Counts.{Counts}
 use Rattle.expression.specs.declared.Checked.{Checked}
 use Rattle.expression.specs.declared.Checked.the-variants.{Passed, Refused}
-use Rattle.expression.specs.Limits.{depthLimit, tableLimit, areaWords, countLimit, areasFor, areaCount, workspaceNeed}
-use Rattle.expression.specs.Refusals.{unjoined}
+use Rattle.expression.specs.Limits.{byteLimit, depthLimit, tableLimit, areaWords, countLimit, areasFor, areaCount, workspaceNeed}
+use Rattle.expression.specs.Refusals.{overlong, unjoined}
 use Rattle.expression.specs.Commands.{readAt}
 use Rattle.expression.specs.Reading.{noCounts, counted, capped, countFault, Placed, Reading, faulty, whole, behind, readFrom, reading}
-use Rattle.expression.specs.Checks.{Test, firstOf, isFaulty, faultNumber, faultPlace, countsOf, isLimit, faultTest, unjoinedTest, checkBytes}
+use Rattle.expression.specs.Checks.{Test, firstOf, isFaulty, faultNumber, faultPlace, countsOf, isLimit, overlongTest, faultTest, unjoinedTest, checkBytes, checkSheet}
 use Rattle.expression.proofs.Commands.{read-ends}
 use Rattle.expression.proofs.Totals.{AtMost, none-at-most, counted-at-most, capped-same, Limited}
 use Rattle.expression.proofs.Readings.{from-end, from-fault, from-count-fault, from-step, reading-limited}
@@ -155,6 +155,15 @@ bytes-joined K s n h = let ((sound, (one, none)), e) = passed-all (countsOf (rea
     reads (whole cs z) e f j q =
         let w = e ∙ ap (whole cs) q in
         record { placed = cs; read = w; joined = sym (ap (λ (x : Counts). x .depth) q) ∙ j; limited = reading-limited K s cs n w }
+
+-- what passes the checks of a sheet passes those that read its bytes
+pub sheet-joined : (K : ℕ) (s : List ℕ) (n : Counts) → checkSheet K s ≡ Passed n → Joined K s n
+unfolding checkSheet checkBytes overlongTest firstOf
+sheet-joined K s n h = step (ltb byteLimit (length s)) h
+  where
+    step : (b : Bool) → cond b (Refused overlong 0) (checkBytes K s) ≡ Passed n → Joined K s n
+    step true e = let z : _≡_ {A = ℕ} 0 1 = cc in absurd (omega arith)
+    step false e = bytes-joined K s n e
 
 -- then the tests behind decide, on the counts
 pub bytes-pass : (K : ℕ) (s : List ℕ) (ts : Counts → List Test) (n : Counts) (x : Checked) → checkBytes K s ≡ Passed n → x ≡ firstOf n (ts n)

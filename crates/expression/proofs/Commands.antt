@@ -9,11 +9,13 @@ use native.Mathlib.Omega.{arith}
 use lib.Dec.{eqb, ltb, leb}
 use lib.ListN.{length, getD, List·getD-eq-default}
 use borrow.Author.Tests.{ne-eqb, lt-ltb, le-ltb, ltb-false}
+use Rattle.expression.specs.declared.Kind.the-variants.{Head, Positive, Negative}
 use Rattle.expression.specs.declared.Command.{Command}
-use Rattle.expression.specs.declared.Command.the-variants.{Atom, Rule, Union}
+use Rattle.expression.specs.declared.Command.the-variants.{Atom, Rule, Union, Relabel, Connect, Name}
 use Rattle.expression.specs.declared.Read.the-variants.{Command as Got, Fault}
+use Rattle.expression.specs.Limits.{nameLength}
 use Rattle.expression.specs.Refusals.{unknown, cut, group, same}
-use Rattle.expression.specs.Commands.{oneOperand, twoOperands, isCommand, operandCount, commandOf, readCommand, readAt}
+use Rattle.expression.specs.Commands.{oneOperand, twoOperands, isName, isCommand, operandCount, tailLength, commandOf, readCommand, readAt}
 
 -- ---- how many operands a byte has
 
@@ -81,11 +83,17 @@ module _ (b : ℕ) where
 
   some-command : 1 ≤ operandCount b → isCommand b ≡ true
   unfolding isCommand
-  some-command h = step (eqb b 0x21) (some-is h)
+  some-command h = step (eqb b 0x21) (isName b) (some-is h)
     where
-      step : (u : Bool) → (oneOperand b || twoOperands b) ≡ true → (u || oneOperand b || twoOperands b) ≡ true
-      step true e = refl
-      step false e = e
+      step : (u n : Bool) → (oneOperand b || twoOperands b) ≡ true → (u || n || oneOperand b || twoOperands b) ≡ true
+      step true n e = refl
+      step false true e = refl
+      step false false e = e
+
+  -- 51 has no operands
+  no-name : 1 ≤ operandCount b → isName b ≡ false
+  unfolding operandCount oneOperand twoOperands
+  no-name h = ne-eqb b 0x51 (λ e. let h′ : 1 ≤ operandCount 0x51 = subst (λ x. 1 ≤ operandCount x) e h in omega arith)
 
   leaf-command : (x y : ℕ) → operandCount b ≡ 1 → commandOf b x y ≡ commandOf b x 0
   unfolding commandOf oneOperand
@@ -101,32 +109,40 @@ module _ (K at n b x y : ℕ) where
   unfolding readCommand isCommand operandCount oneOperand twoOperands commandOf
   union-read e h = rw e (simp (le-ltb n 1 h))
 
-  pub unknown-read : (b ≡ 0x21 → ⊥) → operandCount b ≡ 0 → readCommand K at n b x y ≡ Fault unknown
+  -- no union and no operands: a name, 5 or 6
+  pub name-read : (b ≡ 0x21 → ⊥) → operandCount b ≡ 0
+      → readCommand K at n b x y ≡ cond (isName b) (cond (ltb n (1 + nameLength)) (Fault cut) (Got (Name (at + 1)) (at + (1 + nameLength)))) (Fault unknown)
   unfolding readCommand isCommand
-  unknown-read e h = simp (ne-eqb b 0x21 e, none-is b h .0, none-is b h .1)
+  name-read e h = simp (ne-eqb b 0x21 e, none-is b h .0, none-is b h .1, step (isName b))
+    where
+      step : (p : Bool)
+          → cond (not (p || false || false)) (Fault unknown) (cond (ltb n (1 + cond p nameLength (operandCount b))) (Fault cut) (Got (cond p (Name (at + 1)) (commandOf b x y)) (at + (1 + cond p nameLength (operandCount b)))))
+          ≡ cond p (cond (ltb n (1 + nameLength)) (Fault cut) (Got (Name (at + 1)) (at + (1 + nameLength)))) (Fault unknown)
+      step true = refl
+      step false = refl
 
   pub cut-read : 1 ≤ operandCount b → n ≤ operandCount b → readCommand K at n b x y ≡ Fault cut
   unfolding readCommand
-  cut-read h l = simp (some-command b h, lt-ltb n (1 + operandCount b) (omega arith))
+  cut-read h l = simp (some-command b h, no-name b h, lt-ltb n (1 + operandCount b) (omega arith))
 
   pub leaf-read : operandCount b ≡ 1 → 1 < n → readCommand K at n b x y ≡ cond (leb K x) (Fault group) (Got (commandOf b x 0) (at + 2))
   unfolding readCommand
-  leaf-read h l = simp (some-command b (omega arith), h, le-ltb n 2 (omega arith), one-is b h .0, one-is b h .1, leaf-command b x y h, or-false (leb K x))
+  leaf-read h l = simp (some-command b (omega arith), no-name b (omega arith), h, le-ltb n 2 (omega arith), one-is b h .0, one-is b h .1, leaf-command b x y h, or-false (leb K x))
 
   pub pair-read : 2 ≤ operandCount b → operandCount b < n → readCommand K at n b x y ≡ cond (leb K x || leb K y) (Fault group) (cond (eqb x y) (Fault same) (Got (commandOf b x y) (at + 3)))
   unfolding readCommand
-  pair-read h l = let e = two-is b h in simp (some-command b (omega arith), e .0, e .1, le-ltb n 3 (omega arith), or-true (oneOperand b))
+  pair-read h l = let e = two-is b h in simp (some-command b (omega arith), no-name b (omega arith), e .0, e .1, le-ltb n 3 (omega arith), or-true (oneOperand b))
 
 pub past-end : (K : ℕ) (s : List ℕ) (at : ℕ) → length s ≤ at → readAt K s at ≡ Fault unknown
 unfolding readAt operandCount oneOperand twoOperands
-past-end K s at h = rw (List·getD-eq-default s 0 h) (unknown-read K at (length s - at) 0 (getD s (at + 1) 0) (getD s (at + 2) 0) (λ e. omega arith) refl)
+past-end K s at h = rw (List·getD-eq-default s 0 h) (name-read K at (length s - at) 0 (getD s (at + 1) 0) (getD s (at + 2) 0) (λ e. omega arith) refl)
 
 -- ---- where a command ends
 
 pub read-ends : (K : ℕ) (s : List ℕ) (at : ℕ) (c : Command) (next : ℕ) → readAt K s at ≡ Got c next → (at < next) × (next ≤ length s)
 unfolding readAt readCommand
 read-ends K s at c next h =
-    step (isCommand b) (ltb (length s - at) (1 + operandCount b)) ((oneOperand b || twoOperands b) && leb K x || twoOperands b && leb K y) (twoOperands b && eqb x y) refl h
+    step (isCommand b) (ltb (length s - at) (1 + tailLength b)) ((oneOperand b || twoOperands b) && leb K x || twoOperands b && leb K y) (twoOperands b && eqb x y) refl h
   where
     b : ℕ
     b = getD s at 0
@@ -137,11 +153,53 @@ read-ends K s at c next h =
     y : ℕ
     y = getD s (at + 2) 0
 
-    step : (p q r t : Bool) → ltb (length s - at) (1 + operandCount b) ≡ q
-        → cond (not p) (Fault unknown) (cond q (Fault cut) (cond r (Fault group) (cond t (Fault same) (Got (commandOf b x y) (at + (1 + operandCount b)))))) ≡ Got c next
+    step : (p q r t : Bool) → ltb (length s - at) (1 + tailLength b) ≡ q
+        → cond (not p) (Fault unknown) (cond q (Fault cut) (cond r (Fault group) (cond t (Fault same) (Got (cond (isName b) (Name (at + 1)) (commandOf b x y)) (at + (1 + tailLength b)))))) ≡ Got c next
         → (at < next) × (next ≤ length s)
-    step true false false false e h = let k : at + (1 + operandCount b) ≡ next = cc in omega (arith, ltb-false)
+    step true false false false e h = let k : at + (1 + tailLength b) ≡ next = cc in omega (arith, ltb-false)
     step true false false true e h = let z : _≡_ {A = ℕ} 0 1 = cc in absurd (omega arith)
     step true false true t e h = let z : _≡_ {A = ℕ} 0 1 = cc in absurd (omega arith)
     step true true r t e h = let z : _≡_ {A = ℕ} 0 1 = cc in absurd (omega arith)
     step false q r t e h = let z : _≡_ {A = ℕ} 0 1 = cc in absurd (omega arith)
+
+-- ---- where a name ends
+
+-- a byte with operands makes no name
+made-no-name : (b x y n : ℕ) → commandOf b x y ≡ Name n → ⊥
+unfolding commandOf
+made-no-name b x y n h = step (eqb b 0x11) (eqb b 0x12) (eqb b 0x21) (eqb b 0x31) (eqb b 0x41) (eqb b 0x42) h
+  where
+    step : (p q u m h k : Bool)
+        → cond p (Atom x) (cond q (Rule x) (cond u Union (cond m (Relabel x y) (cond h (Connect Head x y) (cond k (Connect Positive x y) (Connect Negative x y)))))) ≡ Name n → ⊥
+    step true q u m h k e = let z : _≡_ {A = ℕ} 0 1 = cc in omega arith
+    step false true u m h k e = let z : _≡_ {A = ℕ} 0 1 = cc in omega arith
+    step false false true m h k e = let z : _≡_ {A = ℕ} 0 1 = cc in omega arith
+    step false false false true h k e = let z : _≡_ {A = ℕ} 0 1 = cc in omega arith
+    step false false false false true k e = let z : _≡_ {A = ℕ} 0 1 = cc in omega arith
+    step false false false false false true e = let z : _≡_ {A = ℕ} 0 1 = cc in omega arith
+    step false false false false false false e = let z : _≡_ {A = ℕ} 0 1 = cc in omega arith
+
+-- all its bytes are there
+pub name-ends : (K : ℕ) (s : List ℕ) (at n next : ℕ) → readAt K s at ≡ Got (Name n) next → n + nameLength ≤ length s
+unfolding readAt readCommand
+name-ends K s at n next h =
+    step (isCommand b) (ltb (length s - at) (1 + tailLength b)) ((oneOperand b || twoOperands b) && leb K x || twoOperands b && leb K y) (twoOperands b && eqb x y) (isName b) (operandCount b) refl h
+  where
+    b : ℕ
+    b = getD s at 0
+
+    x : ℕ
+    x = getD s (at + 1) 0
+
+    y : ℕ
+    y = getD s (at + 2) 0
+
+    step : (p q r t a : Bool) (m : ℕ) → ltb (length s - at) (1 + cond a nameLength m) ≡ q
+        → cond (not p) (Fault unknown) (cond q (Fault cut) (cond r (Fault group) (cond t (Fault same) (Got (cond a (Name (at + 1)) (commandOf b x y)) (at + (1 + cond a nameLength m)))))) ≡ Got (Name n) next
+        → n + nameLength ≤ length s
+    step true false false false true m e h = let k : at + 1 ≡ n = cc in omega (arith, ltb-false (length s - at) 17 e)
+    step true false false false false m e h = absurd (made-no-name b x y n cc)
+    step true false false true a m e h = let z : _≡_ {A = ℕ} 0 1 = cc in absurd (omega arith)
+    step true false true t a m e h = let z : _≡_ {A = ℕ} 0 1 = cc in absurd (omega arith)
+    step true true r t a m e h = let z : _≡_ {A = ℕ} 0 1 = cc in absurd (omega arith)
+    step false q r t a m e h = let z : _≡_ {A = ℕ} 0 1 = cc in absurd (omega arith)

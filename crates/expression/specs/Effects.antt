@@ -1,18 +1,18 @@
--- What each command does to the stack (01, "The sheet"), said once: counts, depth and tests 9 to 11 go by it. Assumes nothing.
+-- What each command does to the stack (01, "The sheet"; 02, Item 1), said once: counts, depth and tests 9 to 11 go by it. Assumes nothing.
 use Prim.Native.Nat.{ℕ, _+_, _-_}
 use Rattle.expression.specs.declared.Command.{Command}
-use Rattle.expression.specs.declared.Command.the-variants.{Atom, Rule, Union, Relabel, Connect}
+use Rattle.expression.specs.declared.Command.the-variants.{Atom, Rule, Union, Relabel, Connect, Name}
 use Rattle.expression.specs.declared.Leaf.the-variants as leaf
 use Rattle.expression.specs.declared.Effect.{Effect}
 use Rattle.expression.specs.declared.Effect.the-variants.{Push, Unite, Change, Pass}
 
--- no command passes the stack by yet
 unfoldable pub effect : Command → Effect
 effect (Atom g) = Push leaf.Atom
 effect (Rule g) = Push leaf.Rule
 effect Union = Unite
 effect (Relabel i j) = Change
 effect (Connect k i j) = Change
+effect (Name at) = Pass
 
 -- how many operands there must be
 abbrev pub operandsBy : Effect → ℕ

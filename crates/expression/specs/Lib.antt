@@ -5,4 +5,5 @@ pub mod Effects
 pub mod Reading
 pub mod Checks
 pub mod Places
+pub mod Names
 pub mod Outcomes

@@ -5,6 +5,10 @@ use Prim.Native.Nat.{ℕ, _+_, _*_}
 abbrev pub byteLimit : ℕ
 byteLimit = 4096
 
+-- bytes of a name (02, Item 1)
+abbrev pub nameLength : ℕ
+nameLength = 16
+
 -- copies
 abbrev pub atomLimit : ℕ
 atomLimit = 63

@@ -10,12 +10,14 @@ pub enum Kind {
     Negative,
 }
 
+// A name is where its bytes begin (02, Item 1).
 pub enum Command {
     Atom(u32),
     Rule(u32),
     Union,
     Relabel(u32, u32),
     Connect(Kind, u32, u32),
+    Name(usize),
 }
 
 // A leaf of an expression.
@@ -56,6 +58,13 @@ pub enum Checked {
 pub enum Located {
     Before(Counts),
     Nowhere,
+}
+
+// What an atom is called (02, Item 1): its name's first byte is at an offset, it has no name, or a refusal with its number and place.
+pub enum Naming {
+    Named(usize),
+    Nameless,
+    Refused(u64, usize),
 }
 
 // A decision: yes with a plan as a mask, no, or a refusal with its number and place.

@@ -7,6 +7,9 @@ pub const ATOM_LIMIT: u64 = 63;
 
 pub const RULE_LIMIT: u64 = 256;
 
+// Bytes of a name (02, Item 1).
+pub const NAME_LENGTH: usize = 16;
+
 // Operands on the stack at a time.
 pub const DEPTH_LIMIT: u64 = 8;
 

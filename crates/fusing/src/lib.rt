@@ -99,6 +99,7 @@ fn joined(w: u64, c: Command) -> u64
         Command::Rule(_) => 0,
         Command::Atom(_) => 0,
         Command::Union => 0,
+        Command::Name(_) => 0,
     }
 }
 

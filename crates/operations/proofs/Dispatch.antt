@@ -1,10 +1,12 @@
 -- What each command makes of a stack, as the definition's operations say it. Assumes nothing.
-use mathlib.Core.Path.{_≡_, refl, ap, subst}
+use mathlib.Core.Path.{_≡_, refl, ap, _∙_, subst}
 use mathlib.Core.List.{List, [], _∷_}
 use Prim.Native.Nat.{ℕ, _+_, _≤_, _<_}
+use native.Mathlib.Omega.{arith}
+use lib.ListN.{length, length-map}
 use Rattle.labels.specs.Labels.{labelCount}
 use Rattle.expression.specs.declared.Command.{Command}
-use Rattle.expression.specs.declared.Command.the-variants.{Atom, Rule, Union, Relabel, Connect}
+use Rattle.expression.specs.declared.Command.the-variants.{Atom, Rule, Union, Relabel, Connect, Name}
 use Rattle.expression.specs.declared.Kind.{Kind}
 use Rattle.expression.specs.Commands.{Suits}
 use Rattle.expression.specs.Effects.{effect}
@@ -22,14 +24,26 @@ use Rattle.leaves.specs.declared.Tables.{Tables}
 use Rattle.leaves.specs.declared.Tables.the-variants.{Plain, Pairs}
 use Rattle.leaves.specs.Leaves.{algebraOf, tableAlgebra, atomAt, leafEntries}
 use Rattle.leaf_tables.proofs.Leaves.{atom-operation, rule-operation}
-use Rattle.workspace.specs.Workspace.{Acted}
-use Rattle.operands.specs.Operands.{Acts, unitedTable}
+use Rattle.workspace.specs.Workspace.{pairsOf, Acted}
+use Rattle.workspace.proofs.Faults.{no-fault}
+use Rattle.operands.specs.Operands.{Loaded, Acts, unitedTable}
 use Rattle.operations.specs.Operations.{Meets, pushed, mappedTable}
 
 -- the same stack
 pub acts-as : {carry : Carry} {d w p t n m : ℕ} {f g : List (List Entry) → List (List Entry)} {r : ℕ} {ws vals ws' vals' : List ℕ} → ((ts : List (List Entry)) → f ts ≡ g ts)
     → Acts carry d w p t n m f r ws vals ws' vals' → Acts carry d w p t n m g r ws vals ws' vals'
 acts-as {carry} {d} {w} {p} {r = r} {ws = ws} {ws' = ws'} {vals' = vals'} e h = λ ts beyond l. subst (λ us. Acted carry d w p us beyond r ws ws' vals') (e ts) (h ts beyond l)
+
+-- nothing done: the newest table is within the limits, since an area keeps it
+pub pass-acts : {carry : Carry} {d w p t n m : ℕ} {ws vals : List ℕ} → 2 ≤ w → 1 ≤ t → Acts carry d w p t n m (λ ts. ts) n ws vals ws vals
+pass-acts {carry} {d} {w} {p} {t} {n} {m} {ws} {vals} wide one = passed
+  where
+    passed : (ts : List (List Entry)) (beyond : List ℕ) → Loaded carry d w p t n m ts beyond ws vals → Acted carry d w p ts beyond n ws ws vals
+    passed [] beyond l = absurd (omega (arith, l .tables))
+    passed (x ∷ us) beyond l =
+        let e : length (pairsOf x) ≡ n = length-map x (λ (y : Entry). y .item) ∙ l .newer in
+        let few : n ≤ p = omega (arith, e, l .holds .sound .0 .few) in
+        record { most = omega arith; fault = no-fault w p n wide (pairsOf x) (l .holds .sound .0) e; count = λ h. l .newer; holds = λ h. l .holds; same = λ h. absurd (omega arith) }
 
 module _ (kind : Tables) (carry : Carry) (o : Assumptions) (a : ℕ) where
   abbrev act-on : Command → List (List Entry) → List (List Entry)
@@ -83,6 +97,10 @@ module _ (kind : Tables) (carry : Carry) (o : Assumptions) (a : ℕ) where
   unfolding act
   connect-acts k i j e ts = rw e (change-by (connect-is kind carry o k i j) ts)
 
+  pub name-acts : (at : ℕ) {c : Command} → c ≡ Name at → (ts : List (List Entry)) → ts ≡ act (tables (tableAlgebra kind carry) o) a c ts
+  unfolding act
+  name-acts at e ts = rw e
+
 -- ---- what each command meets
 
 module _ {c : Command} (d t : ℕ) where
@@ -105,6 +123,10 @@ module _ {c : Command} (d t : ℕ) where
   pub connect-meets : {k : Kind} {i j : ℕ} → c ≡ Connect k i j → Meets c d t → 1 ≤ t
   unfolding effect
   connect-meets e m = let m' = rw e at m in m' .0
+
+  pub name-meets : {at : ℕ} → c ≡ Name at → Meets c d t → 1 ≤ t
+  unfolding effect
+  name-meets e m = let m' = rw e at m in m' .0
 
 -- a relabel and a connect may be in a batch
 module _ {c : Command} where

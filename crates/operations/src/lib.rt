@@ -196,5 +196,6 @@ pub fn act(
         Command::Union => unite_newest(ws, row, index, vals, carry, d, w, p, t, n, m),
         Command::Relabel(_, _) => map_by(ws, row, index, vals, carry, d, w, p, t, n, c),
         Command::Connect(_, _, _) => map_by(ws, row, index, vals, carry, d, w, p, t, n, c),
+        Command::Name(_) => n,
     }
 }

@@ -19,7 +19,7 @@ use Rattle.labels.specs.Sets.{has, without, replace}
 use Rattle.labels.proofs.Sets.{has-and, has-none}
 use Rattle.expression.specs.declared.Kind.{Kind}
 use Rattle.expression.specs.declared.Command.{Command}
-use Rattle.expression.specs.declared.Command.the-variants.{Atom, Rule, Union, Relabel, Connect}
+use Rattle.expression.specs.declared.Command.the-variants.{Atom, Rule, Union, Relabel, Connect, Name}
 use Rattle.expression.specs.Refusals.{subsetsFull, plansFull}
 use Rattle.expression.specs.Commands.{Suits}
 use Rattle.semantics.specs.Expressions.{act, uniteNewest, changeNewest}
@@ -238,3 +238,4 @@ module _ (K : ℕ) where
       act-formed n (Relabel i j) (t ∷ us) s h e = (shaped-kept _ (relabel-shaped i j t (s .1) (kept-shaped t (h .0))) e, h .1)
       act-formed n (Connect k i j) [] s h e = h
       act-formed n (Connect k i j) (t ∷ us) s h e = (shaped-kept _ (connect-shaped k i j t (kept-shaped t (h .0))) e, h .1)
+      act-formed n (Name at) us s h e = h

@@ -5,7 +5,7 @@ use Prim.Native.Nat.{ℕ, _≤_}
 use native.Mathlib.Omega.{arith}
 use lib.ListN.{length}
 use Rattle.expression.specs.declared.Command.{Command}
-use Rattle.expression.specs.declared.Command.the-variants.{Atom, Rule, Union, Relabel, Connect}
+use Rattle.expression.specs.declared.Command.the-variants.{Atom, Rule, Union, Relabel, Connect, Name}
 use Rattle.expression.specs.declared.Effect.{Effect}
 use Rattle.expression.specs.declared.Effect.the-variants.{Push, Unite, Change, Pass}
 use Rattle.expression.specs.Effects.{effect, operandsBy, depthBy}
@@ -27,6 +27,7 @@ module _ {Y : Type 0} where
   act-does B n Union = (B .unionOp, λ ys. refl)
   act-does B n (Relabel i j) = (B .relabelOp i j, λ ys. refl)
   act-does B n (Connect k i j) = (B .connectOp k i j, λ ys. refl)
+  act-does B n (Name at) = λ ys. refl
 
   -- ---- how deep the stack is then
 

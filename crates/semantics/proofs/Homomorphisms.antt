@@ -4,7 +4,7 @@ use mathlib.Core.List.{List, [], _∷_, map}
 use Prim.Native.Nat.{ℕ}
 use Rattle.expression.specs.declared.Kind.{Kind}
 use Rattle.expression.specs.declared.Command.{Command}
-use Rattle.expression.specs.declared.Command.the-variants.{Atom, Rule, Union, Relabel, Connect}
+use Rattle.expression.specs.declared.Command.the-variants.{Atom, Rule, Union, Relabel, Connect, Name}
 use Rattle.semantics.specs.Expressions.{Expr, atom, rule, union, relabel, connect, Operations, fold, uniteNewest, changeNewest, act, trees}
 
 pub record Homomorphism {Y Z : Type 0} (B : Operations Y) (C : Operations Z) (h : Y → Z) : Type 0 where
@@ -35,6 +35,7 @@ module _ {Y Z : Type 0} {B : Operations Y} {C : Operations Z} {h : Y → Z} (H :
   act-map n (Relabel i j) (y ∷ ys) = ap {B = List Z} (λ z. z ∷ map h ys) (H .relabelOp i j y)
   act-map n (Connect k i j) [] = refl
   act-map n (Connect k i j) (y ∷ ys) = ap {B = List Z} (λ z. z ∷ map h ys) (H .connectOp k i j y)
+  act-map n (Name at) ys = refl
 
 -- folding carries the making of trees
 pub folds : {Y : Type 0} (B : Operations Y) → Homomorphism trees B (fold B)

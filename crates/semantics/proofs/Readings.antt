@@ -11,13 +11,13 @@ use Rattle.lists.specs.Lists.{All}
 use Rattle.lists.proofs.Members.{or-neither}
 use Rattle.expression.specs.declared.Kind.the-variants.{Head, Positive, Negative}
 use Rattle.expression.specs.declared.Command.{Command}
-use Rattle.expression.specs.declared.Command.the-variants.{Atom, Rule, Union, Relabel, Connect}
+use Rattle.expression.specs.declared.Command.the-variants.{Atom, Rule, Union, Relabel, Connect, Name}
 use Rattle.expression.specs.declared.Read.{Read}
 use Rattle.expression.specs.declared.Read.the-variants.{Command as Got, Fault}
 use Rattle.expression.specs.declared.Counts.{Counts}
 use Rattle.expression.specs.Limits.{atomLimit}
 use Rattle.expression.specs.Refusals.{unknown, cut, group, same}
-use Rattle.expression.specs.Commands.{oneOperand, twoOperands, isCommand, operandCount, commandOf, readCommand, readAt, Suits}
+use Rattle.expression.specs.Commands.{oneOperand, twoOperands, isName, isCommand, tailLength, commandOf, readCommand, readAt, Suits}
 use Rattle.expression.specs.Effects.{effect, operandsBy}
 use Rattle.expression.specs.Reading.{depthAfter, counted, countFault, Placed, Reading, faulty, whole, noCounts, behind, readFrom, reading}
 use Rattle.expression.proofs.Totals.{Limited, none-limited, counted-limited, passes-operands}
@@ -38,29 +38,30 @@ module _ (K b x y : ℕ) (low : ((oneOperand b || twoOperands b) && leb K x || t
       either true q h = refl
       either false q h = h
 
-  command-suits : isCommand b ≡ true → Suits K (commandOf b x y)
+  command-suits : (at : ℕ) → isCommand b ≡ true → Suits K (cond (isName b) (Name at) (commandOf b x y))
   unfolding commandOf Suits isCommand oneOperand twoOperands
-  command-suits known = step (eqb b 0x11) (eqb b 0x12) (eqb b 0x21) (eqb b 0x31) (eqb b 0x41) (eqb b 0x42) known labels-one labels-two
+  command-suits at known = step (isName b) (eqb b 0x11) (eqb b 0x12) (eqb b 0x21) (eqb b 0x31) (eqb b 0x41) (eqb b 0x42) known labels-one labels-two
     where
-      step : (p q u m h n : Bool) → (u || (p || q) || (m || h || n || eqb b 0x43)) ≡ true
+      step : (a p q u m h n : Bool) → (u || a || (p || q) || (m || h || n || eqb b 0x43)) ≡ true
           → ((p || q || (m || h || n || eqb b 0x43)) ≡ true → x < K) → ((m || h || n || eqb b 0x43) ≡ true → (x < K) × (y < K))
-          → Suits K (cond p (Atom x) (cond q (Rule x) (cond u Union (cond m (Relabel x y) (cond h (Connect Head x y) (cond n (Connect Positive x y) (Connect Negative x y)))))))
-      step true q u m h n k f g = f refl
-      step false true u m h n k f g = f refl
-      step false false true m h n k f g = tt
-      step false false false true h n k f g = g refl
-      step false false false false true n k f g = g refl
-      step false false false false false true k f g = g refl
-      step false false false false false false k f g = g k
+          → Suits K (cond a (Name at) (cond p (Atom x) (cond q (Rule x) (cond u Union (cond m (Relabel x y) (cond h (Connect Head x y) (cond n (Connect Positive x y) (Connect Negative x y))))))))
+      step true p q u m h n k f g = tt
+      step false true q u m h n k f g = f refl
+      step false false true u m h n k f g = f refl
+      step false false false true m h n k f g = tt
+      step false false false false true h n k f g = g refl
+      step false false false false false true n k f g = g refl
+      step false false false false false false true k f g = g refl
+      step false false false false false false false k f g = g k
 
 command-read : (K at n b x y : ℕ) (c : Command) (next : ℕ) → readCommand K at n b x y ≡ Got c next → Suits K c
 unfolding readCommand
 command-read K at n b x y c next h =
-    step (isCommand b) (ltb n (1 + operandCount b)) ((oneOperand b || twoOperands b) && leb K x || twoOperands b && leb K y) (twoOperands b && eqb x y) refl refl h
+    step (isCommand b) (ltb n (1 + tailLength b)) ((oneOperand b || twoOperands b) && leb K x || twoOperands b && leb K y) (twoOperands b && eqb x y) refl refl h
   where
     step : (p q r t : Bool) → isCommand b ≡ p → ((oneOperand b || twoOperands b) && leb K x || twoOperands b && leb K y) ≡ r
-        → cond (not p) (Fault unknown) (cond q (Fault cut) (cond r (Fault group) (cond t (Fault same) (Got (commandOf b x y) (at + (1 + operandCount b)))))) ≡ Got c next → Suits K c
-    step true false false false e f h = let k : commandOf b x y ≡ c = cc in subst (Suits K) k (command-suits K b x y f e)
+        → cond (not p) (Fault unknown) (cond q (Fault cut) (cond r (Fault group) (cond t (Fault same) (Got (cond (isName b) (Name (at + 1)) (commandOf b x y)) (at + (1 + tailLength b)))))) ≡ Got c next → Suits K c
+    step true false false false e f h = let k : cond (isName b) (Name (at + 1)) (commandOf b x y) ≡ c = cc in subst (Suits K) k (command-suits K b x y f (at + 1) e)
     step true false false true e f h = let z : _≡_ {A = ℕ} 0 1 = cc in absurd (omega arith)
     step true false true t e f h = let z : _≡_ {A = ℕ} 0 1 = cc in absurd (omega arith)
     step true true r t e f h = let z : _≡_ {A = ℕ} 0 1 = cc in absurd (omega arith)

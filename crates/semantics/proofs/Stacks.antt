@@ -8,7 +8,7 @@ use native.Mathlib.Omega.{arith}
 use Rattle.lists.specs.Lists.{All, run}
 use Rattle.lists.proofs.Runs.{run-append, run-bounds}
 use Rattle.expression.specs.declared.Command.{Command}
-use Rattle.expression.specs.declared.Command.the-variants.{Atom, Rule, Union, Relabel, Connect}
+use Rattle.expression.specs.declared.Command.the-variants.{Atom, Rule, Union, Relabel, Connect, Name}
 use Rattle.expression.specs.Commands.{Suits}
 use Rattle.expression.specs.Effects.{effect}
 use Rattle.expression.specs.Reading.{newAtoms}
@@ -49,6 +49,7 @@ fits-act K n (Relabel i j) [] h k = k
 fits-act K n (Relabel i j) (e ∷ es) h k = ((h .0, h .1, k .0), k .1)
 fits-act K n (Connect l i j) [] h k = k
 fits-act K n (Connect l i j) (e ∷ es) h k = ((h .0, h .1, k .0), k .1)
+fits-act K n (Name at) es h k = k
 
 -- two runs on end are one, and apart
 chain-union : (a b : Expr) (es : List Expr) (n : ℕ) → Chain (b ∷ a ∷ es) n → Chain (union a b ∷ es) n
@@ -73,6 +74,7 @@ chain-act n (Relabel i j) [] k = add-zero n ∙ k
 chain-act n (Relabel i j) (e ∷ es) k = rw add-zero k
 chain-act n (Connect l i j) [] k = add-zero n ∙ k
 chain-act n (Connect l i j) (e ∷ es) k = rw add-zero k
+chain-act n (Name at) es k = subst (Chain es) (sym (add-zero n)) k
 
 pub fits-all : (K n : ℕ) (cs : List Command) (es : List Expr) → All (Suits K) cs → All (Fits K) es → All (Fits K) (actAll trees n cs es)
 unfolding actAll

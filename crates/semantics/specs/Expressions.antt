@@ -3,7 +3,7 @@ use mathlib.Core.List.{List, [], _∷_}
 use Prim.Native.Nat.{ℕ, _+_}
 use Rattle.expression.specs.declared.Kind.{Kind}
 use Rattle.expression.specs.declared.Command.{Command}
-use Rattle.expression.specs.declared.Command.the-variants.{Atom, Rule, Union, Relabel, Connect}
+use Rattle.expression.specs.declared.Command.the-variants.{Atom, Rule, Union, Relabel, Connect, Name}
 use Rattle.expression.specs.Reading.{newAtoms}
 
 -- 01: a part. An atom with its number and its label; a rule with its label; two parts joined; a label moved; atoms of one label linked to rules of another
@@ -49,6 +49,7 @@ module _ {Y : Type 0} where
   act B n Union ys = uniteNewest (B .unionOp) ys
   act B n (Relabel i j) ys = changeNewest (B .relabelOp i j) ys
   act B n (Connect k i j) ys = changeNewest (B .connectOp k i j) ys
+  act B n (Name at) ys = ys
 
   unfoldable pub actAll : Operations Y → ℕ → List Command → List Y → List Y
   actAll B n [] ys = ys

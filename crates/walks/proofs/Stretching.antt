@@ -8,7 +8,7 @@ use Rattle.lists.specs.Lists.{All}
 use Rattle.lists.specs.Sorted.{insert, insertAll, canon}
 use Rattle.labels.specs.Labels.{labelCount}
 use Rattle.expression.specs.declared.Command.{Command}
-use Rattle.expression.specs.declared.Command.the-variants.{Atom, Rule, Union, Relabel, Connect}
+use Rattle.expression.specs.declared.Command.the-variants.{Atom, Rule, Union, Relabel, Connect, Name}
 use Rattle.expression.specs.declared.Leaf.the-variants as leaf
 use Rattle.expression.specs.declared.Effect.{Effect}
 use Rattle.expression.specs.declared.Effect.the-variants.{Push, Unite, Change, Pass}
@@ -100,6 +100,7 @@ module _ (kind : Tables) (carry : Carry) (o : Assumptions) (w p stop : ℕ) (s :
         (on pushed (e .2) Union next (e .3) (unitedTable carry x (entryAlgebra labelCount carry .unmet r ∷ []) ∷ us) (union-acts kind carry o _ refl ((entryAlgebra labelCount carry .unmet r ∷ []) ∷ x ∷ us)) (subst (λ (t : List Entry). Sound w p (pairsOf t)) (sym (rule-united carry r x small)) (batched-sound carry w p (Rule r ∷ []) x h)))
     one (Atom r) next e = absurd e
     one Union next e = absurd e
+    one (Name x) next e = absurd e
 
   chain-leads : {z : Counts} {n : Counts} (cs : List Command) (at end : ℕ) (x : List Entry) (us : List (List Entry)) → L z at n (x ∷ us) → Sound w p (pairsOf x) → All (Small carry) x → Chain labelCount s stop at end cs
       → L z end (chainCounts n cs) (stretched carry cs (x ∷ us))

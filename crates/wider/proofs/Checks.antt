@@ -10,13 +10,14 @@ use lib.ListN.{length, getD}
 use borrow.Author.Tests.{ltb-true, ltb-false, leb-false, lt-leb}
 use Rattle.lists.proofs.Members.{or-neither}
 use Rattle.expression.specs.declared.Command.{Command}
+use Rattle.expression.specs.declared.Command.the-variants.{Name}
 use Rattle.expression.specs.declared.Read.{Read}
 use Rattle.expression.specs.declared.Read.the-variants.{Command as Got, Fault}
 use Rattle.expression.specs.declared.Counts.{Counts}
 use Rattle.expression.specs.declared.Checked.{Checked}
 use Rattle.expression.specs.declared.Checked.the-variants.{Passed, Refused}
 use Rattle.expression.specs.Refusals.{unknown, cut, group, same}
-use Rattle.expression.specs.Commands.{oneOperand, twoOperands, isCommand, operandCount, commandOf, readCommand, readAt, refusalOf}
+use Rattle.expression.specs.Commands.{oneOperand, twoOperands, isName, isCommand, tailLength, commandOf, readCommand, readAt, refusalOf}
 use Rattle.expression.specs.Reading.{noCounts, counted, countFault, Placed, Reading, faulty, whole, behind, readFrom, reading}
 use Rattle.expression.specs.Checks.{Request, Test, firstOf, isFaulty, faultNumber, faultPlace, countsOf, overlongTest, limitsTest, crampedTest, clashTest, faultTest, unjoinedTest, absentTest, checks, check, checkSheet, depthTold, depthOutcome}
 use Rattle.expression.proofs.Readings.{from-end, from-fault, from-count-fault, from-step}
@@ -46,8 +47,8 @@ module _ (K L : ℕ) (wide : K ≤ L) where
   pub read-wider : (s : List ℕ) (at : ℕ) → (refusalOf (readAt K s at) ≡ group → ⊥) → readAt L s at ≡ readAt K s at
   unfolding readAt readCommand
   read-wider s at =
-      step (not (isCommand b)) (ltb (length s - at) (1 + operandCount b)) (over K) (over L) less
-      (cond (twoOperands b && eqb x y) (Fault same) (Got (commandOf b x y) (at + (1 + operandCount b))))
+      step (not (isCommand b)) (ltb (length s - at) (1 + tailLength b)) (over K) (over L) less
+      (cond (twoOperands b && eqb x y) (Fault same) (Got (cond (isName b) (Name (at + 1)) (commandOf b x y)) (at + (1 + tailLength b))))
     where
       b : ℕ
       b = getD s at 0

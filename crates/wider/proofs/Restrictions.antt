@@ -9,7 +9,7 @@ use borrow.Author.Tests.{lt-ltb, ltb-true}
 use Rattle.lists.specs.Lists.{All}
 use Rattle.lists.specs.Sorted.{canon}
 use Rattle.expression.specs.declared.Command.{Command}
-use Rattle.expression.specs.declared.Command.the-variants.{Atom, Rule, Union, Relabel, Connect}
+use Rattle.expression.specs.declared.Command.the-variants.{Atom, Rule, Union, Relabel, Connect, Name}
 use Rattle.expression.specs.Commands.{Suits}
 use Rattle.expression.specs.Reading.{newAtoms}
 use Rattle.semantics.specs.Expressions.{changeNewest, act, actAll}
@@ -47,6 +47,7 @@ module _ {X : Type 0} (K : ℕ) (none : X) where
     act-restricted o n Union s ts = refl
     act-restricted o n (Relabel i j) s ts = change-restricted (A .relabelled i j) i j s ts
     act-restricted o n (Connect k i j) s ts = change-restricted (A .connected k i j) i j s ts
+    act-restricted o n (Name at) s ts = refl
 
 -- h carries A to B where labels are below K
 pub record MorphismBelow (K : ℕ) {X Y : Type 0} (A : Algebra X) (B : Algebra Y) (h : X → Y) : Type 0 where

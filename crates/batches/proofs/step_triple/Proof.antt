@@ -1,7 +1,7 @@
 -- `batches::step_triple`: by the command's form.
 use mathlib.Core.Path.{_∙_}
 use Rattle.labels.specs.Labels.{labelCount}
-use Rattle.batches.proofs.Steps.{rule-label, rule-steps, relabel-steps, connect-steps, atom-steps, union-steps}
+use Rattle.batches.proofs.Steps.{rule-label, rule-steps, relabel-steps, connect-steps, atom-steps, union-steps, name-steps}
 use borrow.Author.Needs.{needs}
 use Rattle.batches.proofs.step_triple.Statement.{statement}
 use Rattle.batches.proofs.step_triple.Tie as tie
@@ -30,6 +30,9 @@ enum-told-3 c = search needs
 enum-told-4 : tie.Need-enum-told-4
 enum-told-4 c = search needs
 
+enum-told-5 : tie.Need-enum-told-5
+enum-told-5 c = search needs
+
 returns : tie.Need-returns
 returns c = c .with-rule .ensures ∙ rule-steps labelCount _ _ _ _ (c .before .before .c .given .1)
 
@@ -45,6 +48,9 @@ returns-4 c = atom-steps labelCount _ _ _ _ (c .enum-told3 .given .1)
 returns-5 : tie.Need-returns-5
 returns-5 c = union-steps labelCount _ _ _ (c .enum-told4 .given .1)
 
+returns-6 : tie.Need-returns-6
+returns-6 c = name-steps labelCount _ _ _ _ (c .enum-told5 .given .1)
+
 pub step-triple-spec : {M : Type 1} → statement M
 step-triple-spec =
     tie.close
@@ -57,8 +63,10 @@ step-triple-spec =
     map-triple-requires-2
     enum-told-3
     enum-told-4
+    enum-told-5
     returns
     returns-2
     returns-3
     returns-4
-    returns-5)
+    returns-5
+    returns-6)

@@ -4,7 +4,7 @@ use Prim.Native.Nat.{_<_}
 use native.Mathlib.Omega.{arith}
 use Rattle.labels.specs.Labels.{labelCount}
 use Rattle.candidates.proofs.Mapping.{relabel-labels, connect-labels}
-use Rattle.batches.proofs.Steps.{rule-label, rule-word, relabel-word, no-atom, no-union}
+use Rattle.batches.proofs.Steps.{rule-label, rule-word, relabel-word, no-atom, no-union, no-name}
 use borrow.Author.Needs.{needs}
 use Rattle.batches.proofs.word_of.Statement.{statement}
 use Rattle.batches.proofs.word_of.Tie as tie
@@ -40,6 +40,9 @@ enum-told c = search needs
 enum-told-2 : tie.Need-enum-told-2
 enum-told-2 c = search needs
 
+enum-told-3 : tie.Need-enum-told-3
+enum-told-3 c = search needs
+
 returns : tie.Need-returns
 returns c = rule-word labelCount _ (rule-label labelCount _ (c .before .c .given .1) (c .before .before .before .pre .0)) ∙ sym (c .before .c .given .1)
 
@@ -55,6 +58,9 @@ returns-4 c = absurd (no-atom _ (c .enum-told .given .1) (c .before .before .pre
 returns-5 : tie.Need-returns-5
 returns-5 c = absurd (no-union (c .enum-told2 .given .1) (c .before .before .pre .1))
 
+returns-6 : tie.Need-returns-6
+returns-6 c = absurd (no-name _ (c .enum-told3 .given .1) (c .before .before .pre .1))
+
 pub word-of-spec : {M : Type 1} → statement M
 word-of-spec =
     tie.close
@@ -68,8 +74,10 @@ word-of-spec =
     connect-word-requires
     enum-told
     enum-told-2
+    enum-told-3
     returns
     returns-2
     returns-3
     returns-4
-    returns-5)
+    returns-5
+    returns-6)

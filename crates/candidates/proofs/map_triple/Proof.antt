@@ -3,7 +3,7 @@ use mathlib.Core.Path.{_∙_}
 use native.Mathlib.Omega.{arith}
 use borrow.Author.Needs.{needs}
 use Rattle.labels.specs.Labels.{labelCount}
-use Rattle.candidates.proofs.Mapping.{relabel-labels, connect-labels, relabelled, connected, atom-leaves, rule-leaves, union-leaves}
+use Rattle.candidates.proofs.Mapping.{relabel-labels, connect-labels, relabelled, connected, atom-leaves, rule-leaves, union-leaves, name-leaves}
 use Rattle.candidates.proofs.map_triple.Statement.{statement}
 use Rattle.candidates.proofs.map_triple.Tie as tie
 
@@ -41,6 +41,9 @@ enum-told-2 c = search needs
 enum-told-3 : tie.Need-enum-told-3
 enum-told-3 c = search needs
 
+enum-told-4 : tie.Need-enum-told-4
+enum-told-4 c = search needs
+
 returns : tie.Need-returns
 returns c = c .relabel-triple .ensures ∙ relabelled labelCount _ _ _ _ _ (c .before .before .c .given .1)
 
@@ -59,6 +62,9 @@ returns-4 c = rule-leaves labelCount _ _ _ _ (c .enum-told2 .given .1)
 returns-5 : tie.Need-returns-5
 returns-5 c = union-leaves labelCount _ _ _ (c .enum-told3 .given .1)
 
+returns-6 : tie.Need-returns-6
+returns-6 c = name-leaves labelCount _ _ _ _ (c .enum-told4 .given .1)
+
 pub map-triple-spec : {M : Type 1} → statement M
 map-triple-spec =
     tie.close
@@ -73,8 +79,10 @@ map-triple-spec =
     enum-told
     enum-told-2
     enum-told-3
+    enum-told-4
     returns
     returns-2
     returns-3
     returns-4
-    returns-5)
+    returns-5
+    returns-6)

@@ -51,6 +51,9 @@ enum-told-2 c = search needs
 enum-told-3 : tie.Need-enum-told-3
 enum-told-3 c = search needs
 
+enum-told-4 : tie.Need-enum-told-4
+enum-told-4 c = search needs
+
 returns-6 : tie.Need-returns-6
 returns-6 c =
     let t = c .before in
@@ -82,6 +85,9 @@ returns-9 c = search needs
 returns-10 : tie.Need-returns-10
 returns-10 c = search needs
 
+returns-11 : tie.Need-returns-11
+returns-11 c = search needs
+
 pub joined-spec : {M : Type 1} → statement M
 joined-spec =
     tie.close
@@ -100,8 +106,10 @@ joined-spec =
     enum-told
     enum-told-2
     enum-told-3
+    enum-told-4
     returns-6
     returns-7
     returns-8
     returns-9
-    returns-10)
+    returns-10
+    returns-11)

@@ -1,7 +1,7 @@
 -- `operations::act`: one function for each kind of command.
 use Rattle.leaves.proofs.Writing.{wide-two}
 use Rattle.leaves.proofs.Atoms.{keeps-both}
-use Rattle.operations.proofs.Dispatch.{acts-as, atom-acts, rule-acts, union-acts, relabel-acts, connect-acts, atom-meets, rule-meets, union-meets, relabel-meets, connect-meets, relabel-joins, connect-joins}
+use Rattle.operations.proofs.Dispatch.{acts-as, atom-acts, rule-acts, union-acts, relabel-acts, connect-acts, atom-meets, rule-meets, union-meets, relabel-meets, connect-meets, relabel-joins, connect-joins, pass-acts, name-acts, name-meets}
 use borrow.Author.Needs.{needs}
 use Rattle.operations.proofs.act.Statement.{statement}
 use Rattle.operations.proofs.act.Tie as tie
@@ -52,6 +52,9 @@ map-by-requires-2 c κs =
     let e = c .before .before .before .before in
     let s = e .before .before .before .before .before .before in
     ((wide-two (s .args .kind) (s .args .w) (s .pre .0 .0), s .pre .0 .1, s .pre .0 .3, s .pre .0 .4, s .pre .0 .5, s .pre .0 .6), ((s .pre .1 .0, connect-joins (e .enum-told3 .given .1)), (connect-meets (s .args .d) (s .args .t) (e .enum-told3 .given .1) (s .pre .1 .1), (s .args .m, s .pre .1 .3))))
+
+enum-told-4 : tie.Need-enum-told-4
+enum-told-4 c = search needs
 
 same-length : tie.Need-same-length
 same-length c = search needs
@@ -148,6 +151,11 @@ returns-5 c =
     let s = e .before .before .before .before .before .before in
     λ o a x. acts-as (connect-acts (s .args .kind) (s .args .carry) o a _ _ _ (e .enum-told3 .given .1)) (u .map-by2 .ensures (s .args .m))
 
+returns-6 : tie.Need-returns-6
+returns-6 c =
+    let s = c .before .before .before .before .before .before in
+    λ o a x. acts-as (name-acts (s .args .kind) (s .args .carry) o a _ (c .enum-told4 .given .1)) (pass-acts (wide-two (s .args .kind) (s .args .w) (s .pre .0 .0)) (name-meets (s .args .d) (s .args .t) (c .enum-told4 .given .1) (s .pre .1 .1)))
+
 pub act-spec : {M : Type 1} → statement M
 act-spec =
     tie.close
@@ -162,6 +170,7 @@ act-spec =
     map-by-requires
     enum-told-3
     map-by-requires-2
+    enum-told-4
     same-length
     same-length-2
     same-length-3
@@ -186,4 +195,5 @@ act-spec =
     same-length-18
     same-length-19
     same-length-20
-    returns-5)
+    returns-5
+    returns-6)

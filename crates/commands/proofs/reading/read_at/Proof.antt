@@ -3,7 +3,7 @@ use mathlib.Core.Path.{sym, _∙_}
 use native.Mathlib.Omega.{arith}
 use borrow.Author.Needs.{needs}
 use Rattle.expression.specs.Commands.{readAt}
-use Rattle.expression.proofs.Commands.{past-end, union-read, unknown-read, cut-read, leaf-read, pair-read}
+use Rattle.expression.proofs.Commands.{past-end, union-read, name-read, cut-read, leaf-read, pair-read}
 use Rattle.commands.proofs.reading.read_at.Statement.{statement}
 use Rattle.commands.proofs.reading.read_at.Tie as tie
 
@@ -23,9 +23,12 @@ returns-2 c = sym (union-read _ _ _ _ _ _ (c .if2 .taken) (omega arith))
 operand-count-requires : tie.Need-operand-count-requires
 operand-count-requires c κs = search needs
 
+read-name-requires : tie.Need-read-name-requires
+read-name-requires c κs = search needs
+
 returns-3 : tie.Need-returns-3
 unfolding readAt
-returns-3 c = sym (unknown-read _ _ _ _ _ _ (c .before .before .if2 .left) (omega arith))
+returns-3 c = c .read-name .ensures ∙ sym (name-read _ _ _ _ _ _ (c .before .before .before .if2 .left) (omega arith))
 
 sub-if4 : tie.Need-sub-if4
 sub-if4 c = search needs
@@ -75,6 +78,7 @@ read-at-spec =
     add-t11
     returns-2
     operand-count-requires
+    read-name-requires
     returns-3
     sub-if4
     returns-4
