@@ -1,0 +1,5 @@
+pub mod Last
+pub mod Moved
+pub mod Unnamed
+pub mod Tables
+pub mod Answers
