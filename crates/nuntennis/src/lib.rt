@@ -7,6 +7,7 @@ ghost use mathlib.Core.Path.{_≡_};
 ghost use lib.ListN.{length};
 ghost use Rattle.labels.specs.Labels.{labelCount};
 ghost use Rattle.expression.specs.Checks.{depthOutcome};
+ghost use Rattle.expression.specs.Names.{nameOf, namingOutcome};
 ghost use Rattle.decisions.specs.Outcomes.{groundedOutcome, plainOutcome};
 ghost use Rattle.leaves.specs.declared.Tables.the-variants.{Pairs};
 ghost use Rattle.reports.specs.Reports.{reportOf};
@@ -28,6 +29,20 @@ pub extern "C" fn nuntennis_depth(sheet: &[u8], answer: &mut [u64]) -> u64
         return 0;
     }
     let o = checks::outcomes::depth(sheet);
+    write_answer(answer, o);
+    1
+}
+
+// Where the last name of a copy begins in the sheet (02, Item 1).
+#[no_mangle]
+pub extern "C" fn nuntennis_name(sheet: &[u8], copy: u64, answer: &mut [u64]) -> u64
+    ensures { λ r. ⌜ r ≡ returned (now (answer .entry)) ⌝ }
+    ensures { λ r. ⌜ now (answer .exit) ≡ unlessShort (now (answer .entry)) (now (answer .entry)) (answerOf (namingOutcome (nameOf labelCount (now (sheet .entry)) copy)) (now (answer .entry))) ⌝ }
+{
+    if answer.len() < ANSWER_WORDS {
+        return 0;
+    }
+    let o = names::name_outcome(sheet, copy);
     write_answer(answer, o);
     1
 }
