@@ -1,4 +1,5 @@
-// Pseudo-random sheets, limits, pins and rooms, small enough for the oracle: at most 6 atoms and 6 rules where a sheet is valid.
+// Pseudo-random sheets, limits, pins and rooms, small enough for the oracle: at most 6 atoms and 6 rules where a sheet is valid. Names of any bytes stand
+// between commands.
 ghost use mathlib.Core.Path.{_≡_};
 ghost use Prim.Native.Nat.{_+_, _*_, _<_, _≤_};
 ghost use lib.ListN.{length, take};
@@ -115,12 +116,59 @@ fn less_one(depth: u64) -> u64
     depth - 1
 }
 
+// ---- names
+
+// Once in many turns: how many bytes it has. What is valid has none before the first leaf.
+fn put_name(out: &mut [u8], at: usize, is_valid: bool, depth: u64, x: u64) -> usize
+    requires { ⌜ at ≤ 768 ⌝ }
+    ensures { λ r. ⌜ r ≤ 17 ⌝ }
+{
+    if x % 8 != 0 {
+        return 0;
+    }
+    if is_valid && depth < 1 {
+        return 0;
+    }
+    put(out, at, 0x51);
+    fill_name(out, at + 1, x / 8);
+    17
+}
+
+fn fill_name(out: &mut [u8], at: usize, x: u64)
+    requires { ⌜ at ≤ 769 ⌝ }
+{
+    let mut k: u64 = 0;
+    while k < 16 {
+        put(out, at + k as usize, name_byte(x, k));
+        k += 1;
+    }
+}
+
+// Command bytes, labels, text, or one byte over and over.
+fn name_byte(x: u64, k: u64) -> u8 {
+    match x % 4 {
+        0 => name_command(x / 4 + k % 16),
+        1 => (k % LABELS) as u8,
+        2 => (0x61 + k % 26) as u8,
+        _ => (x / 4 % 256) as u8,
+    }
+}
+
+fn name_command(x: u64) -> u8 {
+    match x % 4 {
+        0 => 0x11,
+        1 => 0x21,
+        2 => 0x51,
+        _ => 0x41,
+    }
+}
+
 // ---- sheets
 
 // A sheet of one of four styles: commands that need not make sense together; a sheet that is cut or has one byte changed; and twice one that passes
 // checks 5 to 12. The answer is its length; the second fact is what a caller has to know to take that part of its array.
 pub fn sheet(style: u64, seed: u64, out: &mut [u8]) -> usize
-    requires { ⌜ 128 ≤ length (now out) ⌝ }
+    requires { ⌜ 768 ≤ length (now out) ⌝ }
     ensures { λ r. ⌜ (r ≤ length (now (out .exit))) × (r ≡ length (take r (now (out .exit)))) ⌝ }
 {
     let n = draft(style % 4, seed, out);
@@ -135,7 +183,7 @@ const NOISE: u64 = 0;
 const DAMAGED: u64 = 1;
 
 fn draft(style: u64, seed: u64, out: &mut [u8]) -> usize
-    ensures { λ r. ⌜ r ≤ 108 ⌝ }
+    ensures { λ r. ⌜ r ≤ 720 ⌝ }
 {
     let mut next = next_seed(seed);
     let mut turn = drawn(next) % 20;
@@ -143,6 +191,7 @@ fn draft(style: u64, seed: u64, out: &mut [u8]) -> usize
     let mut at: usize = 0;
     while turn < TURNS {
         next = next_seed(next);
+        at += put_name(out, at, style != NOISE, depth, drawn(next / 4096));
         let byte = styled_command(style, turn, drawn(next), depth);
         emit(out, at, byte, drawn(seed), next / 1024);
         at += size(byte);
@@ -182,7 +231,7 @@ fn other(i: u8, j: u8) -> u8 {
 
 // A command with two labels that differ; if it has less operands, the next one is written over those too many.
 fn emit(out: &mut [u8], at: usize, byte: u8, spread: u64, x: u64)
-    requires { ⌜ at ≤ 128 ⌝ }
+    requires { ⌜ at ≤ 768 ⌝ }
 {
     let i = label(x, spread);
     let j = other(i, label(x / 64, spread));
@@ -214,7 +263,7 @@ fn damage(x: u64, n: usize, out: &mut [u8]) -> usize
 
 fn damaged_byte(x: u64) -> u8 {
     match x % 4 {
-        0 => (x / 4 % 72) as u8,
+        0 => (x / 4 % 88) as u8,
         1 => edge_label(x / 4),
         _ => (x / 4 % LABELS) as u8,
     }

@@ -3,6 +3,7 @@
 // mean is proved (crate meaning); all else here is proved to stay within bounds and to end, and is right as far as it is tried (crate trials).
 pub mod answering;
 pub mod checking;
+pub mod naming;
 
 // What a decision or a report answers: the value of a yes is the mask shown (plainly 0); a report has the kind YES, its number of entries for a value,
 // and in place of a place its number of words.

@@ -95,13 +95,14 @@ fn operand_fault(depth: u64, needed: u64) -> u64 {
     0
 }
 
-// A command that has no fault.
+// A command that has no fault. A name changes nothing that is built (02, Item 1).
 pub fn apply(p: Policy, byte: u8, i: u64, j: u64) -> Policy {
     match byte {
         0x11 => add_atom(p, i),
         0x12 => add_rule(p, i),
         0x21 => unite(p),
         0x31 => relabel(p, i, j),
+        0x51 => p,
         _ => connect(p, byte, i, j),
     }
 }

@@ -57,6 +57,7 @@ fn size(byte: u8) -> usize {
         0x21 => 1,
         0x11 | 0x12 => 2,
         0x31 | 0x41 | 0x42 | 0x43 => 3,
+        0x51 => 17,
         _ => 0,
     }
 }
@@ -102,9 +103,9 @@ fn bytes_fault(s: &[u8], at: usize) -> u64
     operands_fault(n, operand(s, at, 1), operand(s, at, 2))
 }
 
-// Of a command of n bytes the first n - 1 operands count.
+// Of a command of n bytes the first n - 1 operands count; those of a name are no operands (02, Item 1).
 fn operands_fault(n: usize, i: u64, j: u64) -> u64 {
-    if n < 2 {
+    if n < 2 || n > 3 {
         return 0;
     }
     if i >= LABELS {

@@ -1,6 +1,6 @@
 // The engine held against the oracle: the sheets to try of 01 that are not starred, sheets with too many bytes, atoms or rules, then pseudo-random
-// sheets, each by one of the four calls. Compared are the outcome, which plan is shown, every word of a report and every word of workspace and buffer
-// afterwards. Prints the first disagreement, if any, and how often each outcome was agreed on.
+// sheets, each by one of the four calls, and the name of every copy. Compared are the outcome, which plan is shown, every word of a report and every word
+// of workspace and buffer afterwards. Prints the first disagreement, if any, and how often each outcome was agreed on.
 ghost use Prim.Native.Nat.{_≤_};
 use calls::grounded;
 use expression::Outcome;
@@ -21,6 +21,7 @@ use oracle::answered;
 use oracle::answering::answer;
 use oracle::checking::need_of;
 use oracle::is_same;
+use oracle::naming::name;
 use oracle_tables::Request;
 use outcomes::kind;
 use outcomes::place;
@@ -164,6 +165,8 @@ const WORKSPACE: u64 = 33;
 
 const BUFFER: u64 = 34;
 
+const NAME: u64 = 35;
+
 // AGREED with the kind added, if it is no refusal.
 fn agreed(a: Answer, q: Request) -> u64 {
     if a.kind == REFUSED {
@@ -286,6 +289,91 @@ fn try_rooms() {
     io::write_all(STDOUT_FILENO, b"of 4 rooms\n");
 }
 
+// ---- names (02, Item 1)
+
+// Whether the oracle calls a copy the same, by its offset and by its bytes.
+fn has_name(s: &[u8], copy: u64) -> bool {
+    let expected = name(s, copy);
+    if !is_same(decision_answer(names::name_outcome(s, copy)), expected) {
+        return false;
+    }
+    has_bytes(s, names::name_bytes(s, copy), expected)
+}
+
+fn has_bytes(s: &[u8], bytes: &[u8], expected: Answer) -> bool {
+    if expected.kind != YES {
+        return bytes.len() == 0;
+    }
+    bytes.len() == 16 && starts_with(s, (expected.value % 4096) as usize, bytes)
+}
+
+// Whether bytes stand at an offset.
+fn starts_with(s: &[u8], at: usize, bytes: &[u8]) -> bool
+    requires { ⌜ at ≤ 4096 ⌝ }
+{
+    let mut k: usize = 0;
+    while k < bytes.len() {
+        if k > 4096 || s.len() <= at + k {
+            return false;
+        }
+        if s[at + k] != bytes[k] {
+            return false;
+        }
+        k += 1;
+    }
+    true
+}
+
+// Of each copy that a random sheet has, and of one more.
+fn has_names(s: &[u8]) -> bool {
+    let mut copy: u64 = 0;
+    while copy < 8 {
+        if !has_name(s, copy) {
+            return false;
+        }
+        copy += 1;
+    }
+    true
+}
+
+// Two copies joined: the second is the newest, whose first name is replaced; a rule's name is no copy's; the bytes of a name are no commands.
+fn try_names() {
+    let two =
+        b"\x11\x00\x11\x00\x21\x51\x21\x21\x21\x21\x21\x21\x21\x21\x21\x21\x21\x21\x21\x21\x21\x21\x51archive of 2026 \x12\x01\x51rule of archives\x21";
+    let a = named(two, 0, 0, 0);
+    let b = named(two, 1, 1, 23);
+    let c = named(two, 2, 0, 0);
+    let d = listed(
+        b"\x51\x00\x00\x00\x00\x00\x00\x00\x00\x00\x00\x00\x00\x00\x00\x00\x00",
+        0,
+        0,
+        11,
+        0,
+    );
+    let e = listed(
+        b"\x51\x00\x00\x00\x00\x00\x00\x00\x00\x00\x00\x00\x00\x00\x00\x00",
+        0,
+        0,
+        6,
+        0,
+    );
+    print_number(a + b + c + d + e);
+    io::write_all(STDOUT_FILENO, b"of 5 names\n");
+}
+
+// 1 where both call a copy as listed.
+fn named(s: &[u8], copy: u64, kind: u64, value: u64) -> u64
+    ensures { λ r. ⌜ r ≤ 1 ⌝ }
+{
+    if !is_same(name(s, copy), answered(kind, value, 0)) {
+        return 0;
+    }
+    if !has_name(s, copy) {
+        return 0;
+    }
+    1
+}
+
 // ---- refusals that the random sheets are too small for
 
 // A byte too many comes before what the bytes are; without it they are read.
@@ -359,17 +447,20 @@ fn request(seed: u64) -> Request {
         assumed_false: pins(next_seed(more)),
         is_plain: last % 2 == 1,
         is_report: last % 8 > 2,
-        asked: (last / 8 % 64) as usize,
+        asked: (last / 8 % 128) as usize,
         buffer: BUFFER_ROOM as u64,
     }
 }
 
 fn try_seed(seed: u64) -> u64 {
-    let mut bytes = [0u8; 128];
+    let mut bytes = [0u8; 768];
     let more = next_seed(seed / 5);
     let n = sheet(drawn(more), seed, &mut bytes);
     let mut q = request(more);
     q.room = room(drawn(next_seed(more / 7)), need_of(&bytes[..n], q));
+    if !has_names(&bytes[..n]) {
+        return NAME;
+    }
     try_request(&bytes[..n], q)
 }
 
@@ -401,6 +492,7 @@ fn main() {
     try_listed();
     try_clashes();
     try_rooms();
+    try_names();
     try_large();
     try_seeds(TRIALS, &mut counts);
     print_all(&counts);

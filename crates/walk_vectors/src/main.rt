@@ -636,7 +636,7 @@ fn request(seed: u64) -> Request {
 }
 
 fn try_seed(seed: u64) -> u64 {
-    let mut bytes = [0u8; 128];
+    let mut bytes = [0u8; 768];
     let more = next_seed(seed / 5);
     let n = sheet(drawn(more), seed, &mut bytes);
     let mut q = request(more);

@@ -7,7 +7,7 @@ use Rattle.generator.proofs.draft.Statement.{statement}
 use Rattle.generator.proofs.draft.Tie as tie
 
 abbrev Inv-loop : tie.InvT-loop
-Inv-loop style seed out₀ next₀ turn₀ depth₀ at₀ out next turn depth at = (turn ≤ 36) × (depth ≤ turn) × (at ≤ 3 * turn) × (length out ≡ length out₀)
+Inv-loop style seed out₀ next₀ turn₀ depth₀ at₀ out next turn depth at = (turn ≤ 36) × (depth ≤ turn) × (at ≤ 20 * turn) × (length out ≡ length out₀)
 
 abbrev μ-loop : tie.MeasureT-loop
 μ-loop style seed out₀ next₀ turn₀ depth₀ at₀ out next turn depth at = 36 - turn
@@ -27,11 +27,20 @@ next-seed-requires-2 c κs = search needs
 drawn-requires-2 : tie.Need-drawn-requires-2 Inv-loop μ-loop
 drawn-requires-2 c κs = search needs
 
-styled-command-requires : tie.Need-styled-command-requires Inv-loop μ-loop
-styled-command-requires c κs = search needs
+put-name-requires : tie.Need-put-name-requires Inv-loop μ-loop
+put-name-requires c κs = search needs
+
+add-at : tie.Need-add-at Inv-loop μ-loop
+add-at c = search needs
 
 drawn-requires-3 : tie.Need-drawn-requires-3 Inv-loop μ-loop
 drawn-requires-3 c κs = search needs
+
+styled-command-requires : tie.Need-styled-command-requires Inv-loop μ-loop
+styled-command-requires c κs = search needs
+
+drawn-requires-4 : tie.Need-drawn-requires-4 Inv-loop μ-loop
+drawn-requires-4 c κs = search needs
 
 emit-requires : tie.Need-emit-requires Inv-loop μ-loop
 emit-requires c κs = search needs
@@ -39,8 +48,8 @@ emit-requires c κs = search needs
 size-requires : tie.Need-size-requires Inv-loop μ-loop
 size-requires c κs = search needs
 
-add-at : tie.Need-add-at Inv-loop μ-loop
-add-at c = search needs
+add-at-2 : tie.Need-add-at-2 Inv-loop μ-loop
+add-at-2 c = search needs
 
 depth-after-requires : tie.Need-depth-after-requires Inv-loop μ-loop
 depth-after-requires c κs = search needs
@@ -71,11 +80,14 @@ draft-spec =
     loop-holds
     next-seed-requires-2
     drawn-requires-2
-    styled-command-requires
+    put-name-requires
+    add-at
     drawn-requires-3
+    styled-command-requires
+    drawn-requires-4
     emit-requires
     size-requires
-    add-at
+    add-at-2
     depth-after-requires
     add-turn
     loop-less
