@@ -90,9 +90,20 @@ static decide *const ways[WAYS] = {by_archive, by_old, by_reference, by_library,
 
 static const char *const names[WAYS] = {"the archive", "the older archive", "the hand-written C", "clingo", "clingo as a program"};
 
+static bool has_old;
+
+// An older archive may lack a command: then it is not there for the family.
+static bool old_reads(const instance *x, size_t n)
+{
+    uint64_t plan;
+    for (size_t k = 0; old_grounded && k < n; k++)
+        if (by_call(old_grounded, &x[k], &plan) == -NUNTENNIS_UNKNOWN) return false;
+    return old_grounded != NULL;
+}
+
 static bool is_there(unsigned way)
 {
-    return way == OLD ? old_grounded != NULL : way == LIBRARY ? clingo_has_library() : way == PROGRAM ? clingo_has_program() : true;
+    return way == OLD ? has_old : way == LIBRARY ? clingo_has_library() : way == PROGRAM ? clingo_has_program() : true;
 }
 
 // ---- all must agree
@@ -206,6 +217,7 @@ static void bench_family(const instance *x, size_t n)
     question q[INSTANCES];
     double t[WAYS];
     unsigned yes = 0;
+    has_old = old_reads(x, n);
     for (size_t k = 0; k < n; k++) {
         policy p;
         policy_build(&p, x[k].sheet, x[k].sheet_len);

@@ -135,6 +135,27 @@ static void circle(instance **next, const char *family, unsigned copies, unsigne
     RULE(x, {HEAD, 1}, {code, 0});
 }
 
+// ---- names: the sheet of another family with a name behind every copy, or every copy and rule
+
+static void put_name(instance *x, const char *name)
+{
+    put(x, 0x51);
+    for (unsigned k = 0; k < 16; k++) put(x, (unsigned char)name[k]);
+}
+
+static void named(instance **next, const char *family, const instance *from, unsigned last_code)
+{
+    instance *x = begin(next, family, from->plan_limit, from->subset_limit);
+    x->pins_in = from->pins_in;
+    x->pins_out = from->pins_out;
+    for (size_t at = 0, end; at < from->sheet_len; at = end) {
+        unsigned code = from->sheet[at];
+        end = at + (code == 0x21 ? 1 : code < 0x21 ? 2 : 3);
+        for (size_t k = at; k < end; k++) put(x, from->sheet[k]);
+        if (code <= last_code) put_name(x, "folder, in place");
+    }
+}
+
 // ---- saturation: the reduction of a quantified formula, over 30 pairs of copies and one copy w
 
 enum { W = 0, Y = 1, Z = 2, Y_BEFORE = 3, Z_BEFORE = 4 };
@@ -323,6 +344,8 @@ size_t all_families(instance *instances)
     for (uint64_t seed = 1; seed <= 4; seed++) chain(&next, "chain, 2 groups kept", 2, 2 + seed % 2, seed);
     for (uint64_t seed = 1; seed <= 4; seed++) chain(&next, "chain, 3 groups kept", 3, 2 + seed % 2, seed);
     circle(&next, "circle of needs, 63 copies", 63, NEEDED, 0);
+    named(&next, "circle of needs, copies named", next - 1, 0x11);
+    named(&next, "circle of needs, all named", next - 2, 0x12);
     circle(&next, "circle of needs, one pinned in", 63, NEEDED, 1);
     circle(&next, "circle of bars, 62 copies", 62, BARRING, 0);
     circle(&next, "circle of bars, 63 copies", 63, BARRING, 0);

@@ -3,7 +3,7 @@
 
 #include "tables.h"
 
-enum { SHEET_BYTES = 4096, RULES = 256 };
+enum { SHEET_BYTES = 4096, RULES = 256, NAME_BYTES = 16 };
 
 enum { NO = 0, YES = 1, REFUSED = 2 };
 
@@ -28,7 +28,7 @@ static int operands_of(unsigned code)
 {
     switch (code) {
     case ATOM: case RULE: return 1;
-    case UNION: return 0;
+    case UNION: case NAME: return 0;
     case RELABEL: case HEAD: case POSITIVE: case NEGATIVE: return 2;
     default: return -1;
     }
@@ -37,13 +37,13 @@ static int operands_of(unsigned code)
 // Reads the command at an offset inside the sheet: 0, or 5 to 8.
 static unsigned read_command(const uint8_t *sheet, size_t sheet_len, size_t at, command *c)
 {
-    int operands = operands_of(sheet[at]);
+    int operands = operands_of(sheet[at]), behind = sheet[at] == NAME ? NAME_BYTES : operands;
     if (operands < 0) return UNKNOWN;
-    if (sheet_len - at - 1 < (size_t)operands) return CUT;
+    if (sheet_len - at - 1 < (size_t)behind) return CUT;
     c->code = sheet[at];
     c->i = operands > 0 ? sheet[at + 1] : 0;
     c->j = operands > 1 ? sheet[at + 2] : 0;
-    c->length = 1 + (unsigned)operands;
+    c->length = 1 + (unsigned)behind;
     if (c->i >= LABELS || c->j >= LABELS) return GROUP;
     if (operands == 2 && c->i == c->j) return SAME;
     return 0;

@@ -243,6 +243,7 @@ unsigned run_command(state *s, const command *c)
     case ATOM: return push_atom(s, c->i);
     case RULE: return push_rule(s, c->i);
     case UNION: return unite(s);
+    case NAME: return 0;
     default: return map_table(s, c);
     }
 }
@@ -296,6 +297,7 @@ unsigned run_plain_command(state *s, const command *c)
     case ATOM: return push_plain_atom(s, c->i);
     case RULE: return push_rule(s, c->i);
     case UNION: return unite_plain(s);
+    case NAME: return 0;
     default: return map_plain(s, c);
     }
 }

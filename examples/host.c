@@ -6,6 +6,8 @@
 // the host guesses where that is plain, and the first line of output says what it read. -p and -g are the limits P and G, -i and -o pin
 // copies in and out (such as 0,2); they go before what the file says. --help prints this.
 //
+// Copies are shown by number, and by the name that the sheet gives them where it is text: 0 "archive". A faulty sheet gives none.
+//
 // Exit status: 0 yes, 1 no, 2 refused by the engine; 3 bad usage, 4 the sheet cannot be read whole, 5 a text is not a sheet (the line is
 // named), 6 raw or text is not plain (say --raw or --hex), 7 no memory, 8 output cannot be written, 9 an answer that the host does not
 // know. From 3 to 7 nothing was decided.
@@ -23,6 +25,66 @@
 
 enum { YES, NO, REFUSED, BAD_USAGE, UNREAD, NOT_TEXT, UNCLEAR, NO_MEMORY, UNWRITTEN, UNKNOWN_ANSWER };
 
+// ---- names
+
+typedef struct { const uint8_t *bytes; size_t length; } name;
+
+static int is_blank(uint8_t byte)
+{
+    return byte == 0 || byte == ' ';
+}
+
+static int is_shown(uint8_t byte)
+{
+    return byte >= 0x20 && byte <= 0x7E;
+}
+
+// What a copy is called, without the zeros and spaces behind it; nothing where that is no text.
+static name name_of(const sheet_file *f, unsigned copy)
+{
+    uint64_t answer[3];
+    nuntennis_name(f->sheet, f->sheet_len, copy, answer, 3);
+    if (answer[0] != NUNTENNIS_NAMED) return (name){NULL, 0};
+    name n = {f->sheet + answer[1], NUNTENNIS_NAME_BYTES};
+    while (n.length > 0 && is_blank(n.bytes[n.length - 1])) n.length--;
+    for (size_t k = 0; k < n.length; k++)
+        if (!is_shown(n.bytes[k])) return (name){NULL, 0};
+    return n;
+}
+
+// Whether a name was shown behind the number. Its own quotes are marked, so that no name looks like two.
+static int print_copy(const sheet_file *f, unsigned copy)
+{
+    name n = name_of(f, copy);
+    printf(" %u%s", copy, n.length ? " \"" : "");
+    for (size_t k = 0; k < n.length; k++) printf(n.bytes[k] == '"' || n.bytes[k] == '\\' ? "\\%c" : "%c", n.bytes[k]);
+    if (n.length) putchar('"');
+    return n.length > 0;
+}
+
+static void print_copies(const sheet_file *f, const char *before, uint64_t copies)
+{
+    printf("%s", before);
+    for (unsigned c = 0; c < 64; c++)
+        if (copies >> c & 1 && print_copy(f, c) && copies >> c > 1) putchar(',');
+    if (copies == 0) printf(" none");
+}
+
+// Where a place is in the words of the sheet: of the copies' names the last one before it.
+static void print_name_before(const sheet_file *f, uint64_t place)
+{
+    const uint8_t *last = f->sheet;
+    unsigned copy = NUNTENNIS_COPIES;
+    for (unsigned c = 0; c < NUNTENNIS_COPIES; c++) {
+        name n = name_of(f, c);
+        if (n.length && n.bytes > last && n.bytes < f->sheet + place) last = n.bytes, copy = c;
+    }
+    if (copy == NUNTENNIS_COPIES) return;
+    printf("  behind the name of copy");
+    print_copy(f, copy);
+    printf("\n");
+}
+
 // ---- refusals in words
 
 // What is refused: the request as a whole, or a byte of the sheet, which can be pointed at.
@@ -38,7 +100,7 @@ static const refusal_words refusals[] = {
     {"cramped", "the workspace is too short for the sheet under P and G", REQUEST},
     {"clash", "a copy is pinned in and out", REQUEST},
     {"unknown", "there is no such command byte", BYTE},
-    {"cut", "the command's operands are missing", BYTE},
+    {"cut", "the command's operands, or bytes of its name, are missing", BYTE},
     {"group", "an operand is over 9", BYTE},
     {"same", "a move or link names one group twice", BYTE},
     {"crowded", "this is a 64th copy or a 257th rule", BYTE},
@@ -73,8 +135,11 @@ static void print_refusal(const sheet_file *f, uint64_t number, uint64_t place)
     const refusal_words *words = words_of(number);
     printf("refused: %" PRIu64 " %s", number, words->word);
     if (words->part == BYTE) printf(" at byte %" PRIu64, place);
-    printf(": %s\n", words->reason);
+    printf(": %s", words->reason);
+    if (number == NUNTENNIS_CLASH) print_copies(f, ":", f->pins_in & f->pins_out);
+    printf("\n");
     if (words->part == BYTE && place <= f->sheet_len) point_at(f->sheet, f->sheet_len, (size_t)place);
+    if (number == NUNTENNIS_SUBSETS_FULL || number == NUNTENNIS_PLANS_FULL) print_name_before(f, place);
 }
 
 // ---- the decision, with a bar by the walk
@@ -108,20 +173,12 @@ static void decide(const sheet_file *f, uint32_t *workspace, size_t words, uint6
 
 // ---- what it says
 
-static void print_copies(const char *before, uint64_t copies)
-{
-    printf("%s", before);
-    for (unsigned c = 0; c < 64; c++)
-        if (copies >> c & 1) printf(" %u", c);
-    if (copies == 0) printf(" none");
-}
-
 static void print_question(const sheet_file *f)
 {
     printf("%s, read as %s: %zu bytes, ", f->name, f->form == SHEET_FILE_HEX ? "hexadecimal text" : "raw bytes", f->sheet_len);
     printf("P = %" PRIu64 ", G = %" PRIu64 ";", f->plan_limit, f->subset_limit);
-    print_copies(" pinned in:", f->pins_in);
-    print_copies("; pinned out:", f->pins_out);
+    print_copies(f, " pinned in:", f->pins_in);
+    print_copies(f, "; pinned out:", f->pins_out);
     printf("\n");
 }
 
@@ -130,7 +187,7 @@ static void print_plan(const sheet_file *f, uint32_t *workspace, size_t words)
 {
     uint64_t answer[3];
     nuntennis_grounded(f->sheet, f->sheet_len, f->plan_limit, f->subset_limit, f->pins_in, f->pins_out, workspace, words, answer, 3);
-    print_copies("yes: the first grounded plan keeps these copies:", answer[1]);
+    print_copies(f, "yes: the first grounded plan keeps these copies:", answer[1]);
     printf("\n");
 }
 
@@ -159,12 +216,14 @@ static void print_help(void)
            "Says whether the backup policy of a sheet has a grounded plan.\n\n"
            "  SHEET        a file, or - for standard input\n"
            "  --raw        its bytes are the sheet\n"
-           "  --hex        it is hexadecimal text; # begins a comment, and a line such as '#: limits 32 32' or '#: pins in 0 2' a setting\n"
+           "  --hex        it is hexadecimal text; # begins a comment, and a line such as '#: limits 32 32' or '#: pins in 0 2' a setting;\n"
+           "               a name may stand in quotes, as in 51 \"archive\"\n"
            "               (without either option the host guesses where that is plain, and says what it read)\n"
            "  -p PLANS     the most pairs of a table, 1 to 1024 (32 where the file does not say)\n"
            "  -g SUBSETS   the most subsets of a pair, 1 to 1024 (32 where the file does not say)\n"
            "  -i COPIES    copies that the plan must have, such as 0,2, or none\n"
            "  -o COPIES    copies that it must not have\n\n"
+           "Copies are shown by number, and by the name that the sheet gives them where it is text: 0 \"archive\". A faulty sheet gives none.\n\n"
            "Exit status: 0 yes, 1 no, 2 refused by the engine; 3 bad usage, 4 the sheet cannot be read whole, 5 a text is not a sheet,\n"
            "6 raw or text is not plain, 7 no memory, 8 output cannot be written, 9 an answer that the host does not know.\n");
 }

@@ -1,6 +1,8 @@
 // Reading of sheet files; everything wrong with one is said, in a text with its line.
 #include "sheet_file.h"
 
+#include "nuntennis.h"
+
 #include <ctype.h>
 #include <errno.h>
 #include <stdio.h>
@@ -114,22 +116,42 @@ static int digit_of(char c)
     return is_digit(c) ? c - '0' : tolower((unsigned char)c) - 'a' + 10;
 }
 
+// The line moves behind the byte, or to what is wrong.
+static const char *read_byte(sheet_file *f, const char **line)
+{
+    const char *c = *line;
+    if (!is_hex_digit(c[0])) return "not a hexadecimal digit";
+    if (!c[1] || is_space(c[1]) || c[1] == '#') return "one digit, where a byte is two";
+    if (!is_hex_digit(c[1])) return (*line)++, "not a hexadecimal digit";
+    f->sheet[f->sheet_len++] = (uint8_t)(16 * digit_of(c[0]) + digit_of(c[1]));
+    *line += 2;
+    return NULL;
+}
+
+// A name in quotes. The line moves behind it, or stays where it is wrong.
+static const char *read_name(sheet_file *f, const char **line)
+{
+    const char *name = *line + 1;
+    size_t length = strcspn(name, "\"");
+    if (f->sheet_len == 0 || f->sheet[f->sheet_len - 1] != 0x51) return "a name, but no 51 before it";
+    if (!name[length]) return "a name without its second quote";
+    if (length > NUNTENNIS_NAME_BYTES) return "a name of over 16 bytes";
+    memset(f->sheet + f->sheet_len, 0, NUNTENNIS_NAME_BYTES);
+    memcpy(f->sheet + f->sheet_len, name, length);
+    f->sheet_len += NUNTENNIS_NAME_BYTES;
+    *line = name + length + 1;
+    return NULL;
+}
+
 // The bytes of a line, up to its comment. The line moves to what is wrong.
 static const char *read_bytes(sheet_file *f, const char **line)
 {
-    while (**line && **line != '#') {
-        const char *c = *line;
-        if (is_space(*c)) {
-            (*line)++;
-            continue;
-        }
-        if (!is_hex_digit(c[0])) return "not a hexadecimal digit";
-        if (!c[1] || is_space(c[1]) || c[1] == '#') return "one digit, where a byte is two";
-        if (!is_hex_digit(c[1])) return (*line)++, "not a hexadecimal digit";
-        f->sheet[f->sheet_len++] = (uint8_t)(16 * digit_of(c[0]) + digit_of(c[1]));
-        *line += 2;
+    const char *wrong = NULL;
+    while (!wrong && **line && **line != '#') {
+        if (is_space(**line)) (*line)++;
+        else wrong = **line == '"' ? read_name(f, line) : read_byte(f, line);
     }
-    return NULL;
+    return wrong;
 }
 
 // A comment's line has no bytes; one with #: is a setting. The line moves to what is wrong.
@@ -154,12 +176,10 @@ static sheet_file_status print_wrong_line(const char *name, size_t number, const
     return SHEET_FILE_NOT_TEXT;
 }
 
-// A line ends with LF, CR or both. The sheet's bytes are put over the text: a byte takes one place where its digits took two.
-static sheet_file_status read_text(sheet_file *f, size_t length)
+// A line ends with LF, CR or both.
+static sheet_file_status read_lines(sheet_file *f, char *text, const char *end)
 {
-    char *text = (char *)f->sheet, *end = text + length;
     if (strncmp(text, BYTE_ORDER_MARK, 3) == 0) text += 3;
-    f->sheet_len = 0;
     for (size_t number = 1; text <= end; number++) {
         char *stop = text + strcspn(text, "\r\n");
         const char *at = text, *wrong = "a zero byte in a text";
@@ -169,6 +189,33 @@ static sheet_file_status read_text(sheet_file *f, size_t length)
         if ((wrong = read_line(f, &at))) return print_wrong_line(f->name, number, wrong, at);
     }
     return SHEET_FILE_WHOLE;
+}
+
+static sheet_file_status print_no_memory(const sheet_file *f)
+{
+    fprintf(stderr, "%s: no memory for its %zu bytes or more\n", f->name, f->sheet_len);
+    return SHEET_FILE_NO_MEMORY;
+}
+
+// The most bytes that a text makes: one needs two digits, and a name two quotes.
+static size_t room_for(const char *text, size_t length)
+{
+    size_t room = length + 1;
+    for (size_t k = 0; k < length; k++) room += text[k] == '"' ? NUNTENNIS_NAME_BYTES / 2 : 0;
+    return room;
+}
+
+// The file's bytes are the text, and give way to the sheet's.
+static sheet_file_status read_text(sheet_file *f)
+{
+    char *text = (char *)f->sheet, *end = text + f->sheet_len;
+    uint8_t *sheet = malloc(room_for(text, f->sheet_len));
+    if (!sheet) return print_no_memory(f);
+    f->sheet = sheet;
+    f->sheet_len = 0;
+    sheet_file_status status = read_lines(f, text, end);
+    free(text);
+    return status;
 }
 
 // ---- raw or text
@@ -214,10 +261,7 @@ static sheet_file_status read_all(sheet_file *f, FILE *in)
 {
     for (size_t room = 1 << 16; room <= SHEET_FILE_TOO_LONG; room *= 2) {
         uint8_t *wider = realloc(f->sheet, room + 1);
-        if (!wider) {
-            fprintf(stderr, "%s: no memory for its %zu bytes or more\n", f->name, f->sheet_len);
-            return SHEET_FILE_NO_MEMORY;
-        }
+        if (!wider) return print_no_memory(f);
         f->sheet = wider;
         f->sheet_len += fread(f->sheet + f->sheet_len, 1, room - f->sheet_len, in);
         f->sheet[f->sheet_len] = 0;
@@ -243,7 +287,7 @@ sheet_file_status sheet_file_read(sheet_file *f, const char *path, sheet_file_fo
     *f = (sheet_file){.form = form, .plan_limit = 32, .subset_limit = 32};
     sheet_file_status status = read_path(f, path);
     if (status == SHEET_FILE_WHOLE && form == SHEET_FILE_GUESS) status = guess_form(f);
-    if (status == SHEET_FILE_WHOLE && f->form == SHEET_FILE_HEX) status = read_text(f, f->sheet_len);
+    if (status == SHEET_FILE_WHOLE && f->form == SHEET_FILE_HEX) status = read_text(f);
     return status;
 }
 

@@ -1,7 +1,8 @@
 // Sheets in files: raw bytes, or hexadecimal text with comments.
 //
-// In text a byte is two hexadecimal digits, and # begins a comment that ends with the line. A line that begins with #: says how the
-// sheet is tried; copies are listed by number. What a file does not say is P = G = 32 and no pins.
+// In text a byte is two hexadecimal digits, and # begins a comment that ends with the line. Behind 51 a name may stand in quotes, such as
+// 51 "archive": up to sixteen bytes but quotes, and zeros follow to make sixteen. A line that begins with #: says how the sheet is tried;
+// copies are listed by number. What a file does not say is P = G = 32 and no pins.
 //
 //     #: limits 32 32
 //     #: pins in 0 2

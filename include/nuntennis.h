@@ -23,8 +23,8 @@
  *
  * THE SHEET
  *
- * A policy comes as a sheet: at most 4096 bytes, one command byte each time, then operands of one byte. A group is 0 to 9. Command
- * bytes are hexadecimal here; every other number is decimal.
+ * A policy comes as a sheet: at most 4096 bytes, names included; one command byte each time, then operands of one byte, or a name of
+ * sixteen. A group is 0 to 9. Command bytes are hexadecimal here; every other number is decimal.
  *
  *     11 g      a new copy in group g; copies are numbered from 0 in the order in which they appear (at most 63)
  *     12 g      a new rule in group g, its three sets empty (at most 256)
@@ -33,6 +33,7 @@
  *     41 i j    in the newest part every copy of group i goes into the head set of every rule of group j
  *     42 i j    .. into the needed set
  *     43 i j    .. into the barring set
+ *     51 name   the copy or rule that appeared last is called so: sixteen bytes of any value (see NAMES)
  *
  * 11 and 12 put a new part on the stack (at most 8 at a time); a whole sheet leaves one part. The sheet's depth (D) is the most parts that
  * it has at any moment; most sheets need two or three.
@@ -53,6 +54,7 @@
  *   answer, answer_len         at least three words (see ANSWERS)
  *   record                     walks: a running record, lent; before start it is initialised memory of any value, as {0}: start reads it
  *   asked                      reports: the offset in the sheet of the command asked
+ *   copy                       name: the number of the copy asked; any
  *   report, report_len         reports: lent words for the report; they may hold anything before a call
  *
  * A length counts elements, not bytes. A pointer is not NULL and is aligned for its type, also where its length is 0. The buffers of
@@ -66,15 +68,17 @@
  *
  *   answer[0]  kind       answer[1]  value                                answer[2]  place
  *   0  no                 0                                               0
+ *   0  nameless           0                                               0
  *   1  yes                grounded: first plan, bit c is copy c;          0
  *                         depth: D; else 0
  *   1  reported           entries written                                 words written
+ *   1  named              offset in the sheet of the name's first byte    0
  *   2  refused            the refusal's number                            the refusal's place
  *   3  moved              0                                               0
  *   4  ended              0                                               0
  *
- * depth answers 1 or 2, decisions 0, 1 or 2, reports 1 or 2, start 2 or 3, step 2, 3 or 4, and verdict 0, 1 or 2, where a yes shows no
- * plan: its value is 0. The plan of a grounded decision's yes is the first one (see DECISIONS). Nothing is left open.
+ * depth answers 1 or 2, name 0, 1 or 2, decisions 0, 1 or 2, reports 1 or 2, start 2 or 3, step 2, 3 or 4, and verdict 0, 1 or 2, where a
+ * yes shows no plan: its value is 0. The plan of a grounded decision's yes is the first one (see DECISIONS). Nothing is left open.
  *
  *
  * REFUSALS
@@ -85,12 +89,12 @@
  *    3  cramped        workspace_len is under (D+1)*P*(G+2)                    0
  *    4  clash          a copy of the sheet is pinned in and out                0
  *    5  unknown        no such command byte                                    offset of that command
- *    6  cut            operands are missing                                    offset of that command
+ *    6  cut            an operand, or a byte of a name, is missing             offset of that command
  *    7  group          an operand is over 9                                    offset of that command
  *    8  same           i equals j                                              offset of that command
  *    9  crowded        a 64th copy or a 257th rule                             offset of that command
  *   10  deep           a ninth part                                            offset of that command
- *   11  bare           21 with under two parts; 31, 41, 42, 43 with none       offset of that command
+ *   11  bare           21 with under two parts; 31, 41, 42, 43, 51 with none   offset of that command
  *   12  unjoined       not exactly one part at the end                         sheet_len
  *   13  absent         a pin on a copy that the sheet lacks, bit 63 included   sheet_len
  *   14  offset         reports: no command starts at byte asked                asked
@@ -103,11 +107,12 @@
  *
  * They are tested in this order: 1, 2; then the whole sheet is read, and the first faulty command gives the lowest of 5 to 11 that
  * applies to it; then 12, 3, 13, 4; then 14; then the tables command by command, at each command 15 before 16, and for a report no
- * further than the command asked; then 17. plain and plain_report never give 15. depth tests 1 and 5 to 12 and no more; start 1 to 13;
- * verdict 1 to 13, then 18; step 1 to 13, then 18, then its one command, 15 before 16.
+ * further than the command asked; then 17. plain and plain_report never give 15. depth and name test 1 and 5 to 12 and no more; start 1 to
+ * 13; verdict 1 to 13, then 18; step 1 to 13, then 18, then its one command, 15 before 16. The bytes of a name are no operands: 7 and 8
+ * are not for them.
  *
  * A table here is the one after a command (document 01, Tables): of pairs for grounded, report and step, of triples for plain and
- * plain_report.
+ * plain_report. 51 makes none, so 15 and 16 are never its own.
  *
  *
  * WHAT A CALL LEAVES (NEED is NUNTENNIS_WORKSPACE_WORDS(D, P, G), with the depth D of the whole sheet, also for a report)
@@ -123,7 +128,7 @@
  *   step: moved                the tables after the command    the state after the command
  *   any other                  unchanged                       unchanged
  *
- * Words of workspace past the first NEED are never read or written. Words of report are never read. depth has neither.
+ * Words of workspace past the first NEED are never read or written. Words of report are never read. depth and name have neither.
  *
  *
  * TIME
@@ -134,10 +139,11 @@
  *                    what they make is put in order; in all at most P*P*(G+1)*(G+1) steps
  *   31, 41, 42, 43   for each pair: subsets + 1 steps, and what they make is put in order
  *   11, 12           at most two pairs
+ *   51               nothing
  *
  * A join that is refused can take as long: 16 is said once no pair gave 15. plain and plain_report have no subsets, so a join takes
  * P*P steps at most. Beside its commands a decision, a report or start zeroes NEED words, and each step and verdict reads them all; words
- * lent beyond them cost nothing.
+ * lent beyond them cost nothing. depth and name only read the sheet.
  *
  * Some sheets are built to take long: three blocks of copies, some of them pinned in, whose tables come near both limits, and two joins of
  * them. One nuntennis_grounded took these seconds of processor time, on an AMD EPYC that was busy with other work:
@@ -162,7 +168,7 @@
  *
  * STACK
  *
- * tests/test_stack.c measures what a call uses: nuntennis_grounded 96,816 bytes, any other under 23,200. NUNTENNIS_STACK_BYTES is for the
+ * tests/test_stack.c measures what a call uses: nuntennis_grounded 96,864 bytes, any other under 23,200. NUNTENNIS_STACK_BYTES is for the
  * call alone. A thread's stack holds more: the C library's data of the thread with its thread-local storage (4,464 bytes in that test, by
  * glibc 2.36; more in a host that has more), the host's own frames above the call, those of a signal handler, and the guard where it is
  * taken from the same size. So a thread of just NUNTENNIS_STACK_BYTES is too small: it overflowed when tried. Give a thread that makes
@@ -183,6 +189,7 @@ extern "C" {
 #define NUNTENNIS_COPIES 63         /* the most copies of a sheet */
 #define NUNTENNIS_RULES 256         /* the most rules of a sheet */
 #define NUNTENNIS_PARTS 8           /* the most parts at a time */
+#define NUNTENNIS_NAME_BYTES 16     /* a name has just so many */
 #define NUNTENNIS_LIMIT 1024        /* the most that P and G may be */
 #define NUNTENNIS_ANSWER_WORDS 3
 #define NUNTENNIS_STACK_BYTES 98304         /* the most stack that a call uses: see STACK */
@@ -197,11 +204,13 @@ extern "C" {
 #define NUNTENNIS_REPORT_WORDS(P, G) ((size_t)(P) * ((size_t)(G) + 2))
 #define NUNTENNIS_PLAIN_REPORT_WORDS(P) ((size_t)(P))
 
-/* answer[0]; reports have NUNTENNIS_REPORTED in place of NUNTENNIS_YES */
+/* answer[0]; in place of NUNTENNIS_YES reports have NUNTENNIS_REPORTED, and name has NUNTENNIS_NAMED, with NUNTENNIS_NAMELESS for no */
 enum {
     NUNTENNIS_NO = 0,
+    NUNTENNIS_NAMELESS = 0,
     NUNTENNIS_YES = 1,
     NUNTENNIS_REPORTED = 1,
+    NUNTENNIS_NAMED = 1,
     NUNTENNIS_REFUSED = 2,
     NUNTENNIS_MOVED = 3,
     NUNTENNIS_ENDED = 4
@@ -243,6 +252,29 @@ enum {
 uint64_t nuntennis_depth(const uint8_t *sheet, size_t sheet_len, uint64_t *answer, size_t answer_len);
 
 /*
+ * NAMES
+ *
+ * A 51 names the newest copy or rule, that is the one that appeared last in the sheet (11 or 12), wherever it stands by now: after
+ * 11 00 11 01 21 it names copy 1. Naming again replaces the name. A rule's name is read and never handed back, and behind a rule a 51 does
+ * not name the copy before it. The sixteen bytes may be anything, command bytes included.
+ *
+ * Names change no decision and no table, only the offsets of what stands behind them. A 51 starts a command at its own offset and not
+ * inside its name (refusals 14 and 18). A report asked there writes the table before it, and a step over it moves the record's place by
+ * 17 and nothing else.
+ *
+ * nuntennis_name: named, with the offset in the sheet of the first byte of the copy's name, after checks 1 and 5 to 12; nameless where the
+ * copy has no name, or where the sheet has no such copy, whatever the number. It needs no limits, pins or workspace.
+ *
+ *     nuntennis_name(sheet, sheet_len, c, answer, 3);
+ *     if (answer[0] == NUNTENNIS_NAMED) printf("%.*s\n", NUNTENNIS_NAME_BYTES, (const char *)sheet + answer[1]);
+ *     else printf("copy %d\n", c);
+ *
+ * So the name is not copied, and no zero need stand behind it. It is the sheet's: a host that does not trust the sheet looks at the bytes
+ * before it prints them, as examples/host.c does.
+ */
+uint64_t nuntennis_name(const uint8_t *sheet, size_t sheet_len, uint64_t copy, uint64_t *answer, size_t answer_len);
+
+/*
  * DECISIONS
  *
  * nuntennis_grounded: is there a grounded plan that obeys the pins? Pins bind the plan, never the smaller plans that it is compared
@@ -277,9 +309,9 @@ uint64_t nuntennis_plain(const uint8_t *sheet, size_t sheet_len,
 /*
  * REPORTS
  *
- * The table after the command that starts at byte `asked`, that is the table of the part that this command leaves newest. The whole
- * sheet is read and checked first; tables are built up to that command and no further. Pins bind the plans of the table, never their
- * smaller plans.
+ * The table after the command that starts at byte `asked`, that is the table of the part that this command leaves newest; after a 51 it is
+ * the table before it. The whole sheet is read and checked first; tables are built up to that command and no further. Pins bind the plans
+ * of the table, never their smaller plans.
  *
  * A triple is three sets of groups as one number, T + 1024*F + 1048576*U, where group g counts 2^g in its set. T: groups with a copy in
  * the plan. F: groups with a copy outside it. U: groups with an unmet rule. A pair is a triple Q of a plan, with the triples of its

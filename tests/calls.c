@@ -13,6 +13,7 @@
 #include <unistd.h>
 
 _Static_assert(POLICY_GROUPS == NUNTENNIS_GROUPS, "the header's groups are document 02's");
+_Static_assert(POLICY_NAME == NUNTENNIS_NAME_BYTES, "the header's names are document 02's");
 
 const char *case_name = "";
 uint64_t case_number;
@@ -109,12 +110,20 @@ static uint64_t make_call(call c, const oracle_request *r, const buffers *b)
     }
 }
 
-static buffers lend_all(const oracle_request *r, uint64_t seed)
+// The sheet and the answer alone.
+static buffers lend_reading(const oracle_request *r, uint64_t seed)
 {
     uint8_t *sheet = lend(&sheet_room, r->sheet_len, seed);
     memcpy(sheet, r->sheet, r->sheet_len);
-    return (buffers){sheet, lend(&workspace_room, 4 * r->workspace_len, seed), lend(&report_room, 4 * r->report_len, seed),
-                     lend(&answer_room, 8 * r->answer_len, seed)};
+    return (buffers){sheet, NULL, NULL, lend(&answer_room, 8 * r->answer_len, seed)};
+}
+
+static buffers lend_all(const oracle_request *r, uint64_t seed)
+{
+    buffers b = lend_reading(r, seed);
+    b.workspace = lend(&workspace_room, 4 * r->workspace_len, seed);
+    b.report = lend(&report_room, 4 * r->report_len, seed);
+    return b;
 }
 
 // ---- the rules
@@ -160,6 +169,15 @@ static void check_untouched(call c, const oracle_request *r, uint64_t seed)
     if (!is_untouched(&report_room, 4 * r->report_len, 0, seed)) disagree(names[c], r, "a short answer slice, and a changed report");
 }
 
+// What a call that is lent nothing but the sheet and the answer leaves.
+static void check_reading(const char *name, const oracle_request *r, const buffers *b, uint64_t returned, oracle_answer want, uint64_t seed)
+{
+    if (returned != (r->answer_len >= 3)) disagree(name, r, "it returned %" PRIu64, returned);
+    if (r->sheet_len > 0 && memcmp(b->sheet, r->sheet, r->sheet_len) != 0) disagree(name, r, "the sheet was changed");
+    if (returned == 1) check_answer(name, r, b->answer, want);
+    if (!is_untouched(&answer_room, 8 * r->answer_len, returned ? 24 : 0, seed)) disagree(name, r, "an answer word was changed");
+}
+
 static void expect_depth(const oracle_request *r, uint64_t seed)
 {
     static const char name[] = "nuntennis_depth";
@@ -167,9 +185,20 @@ static void expect_depth(const oracle_request *r, uint64_t seed)
     watch(name, r);
     uint64_t returned = nuntennis_depth(b.sheet, r->sheet_len, b.answer, r->answer_len);
     watch(NULL, NULL);
-    if (returned != (r->answer_len >= 3)) disagree(name, r, "it returned %" PRIu64, returned);
-    if (returned == 1) check_answer(name, r, b.answer, oracle_depth(r));
-    if (!is_untouched(&answer_room, 8 * r->answer_len, returned ? 24 : 0, seed)) disagree(name, r, "an answer word was changed");
+    check_reading(name, r, &b, returned, oracle_depth(r), seed);
+}
+
+static oracle_answer expect_name(const oracle_request *r, uint64_t copy, uint64_t seed)
+{
+    char name[64];
+    snprintf(name, sizeof name, "nuntennis_name of copy %" PRIu64, copy);
+    buffers b = lend_reading(r, seed);
+    oracle_answer want = oracle_name(r, copy);
+    watch(name, r);
+    uint64_t returned = nuntennis_name(b.sheet, r->sheet_len, copy, b.answer, r->answer_len);
+    watch(NULL, NULL);
+    check_reading(name, r, &b, returned, want, seed);
+    return want;
 }
 
 static void make_and_check(call c, const oracle_request *r, oracle_answer want, const oracle_table *table, uint64_t seed)
@@ -190,10 +219,39 @@ static void make_and_check(call c, const oracle_request *r, oracle_answer want, 
     check_report(c, r, &b, table, seed);
 }
 
-void expect_call(call c, const oracle_request *r, oracle_answer want, const oracle_table *table)
+static uint64_t next_seed(void)
 {
     static uint64_t seed;
-    seed += 1000003;
+    return seed += 1000003;
+}
+
+void expect_call(call c, const oracle_request *r, oracle_answer want, const oracle_table *table)
+{
+    uint64_t seed = next_seed();
     make_and_check(c, r, want, table, seed);
     expect_depth(r, seed);
+}
+
+unsigned expect_names(const oracle_request *r)
+{
+    static const uint64_t others[] = {64, 65, 255, 256, (uint64_t)1 << 32, (uint64_t)1 << 63, UINT64_MAX - 1, UINT64_MAX};
+    uint64_t seed = next_seed();
+    unsigned named = 0;
+    for (uint64_t copy = 0; copy < 64; copy++) named += expect_name(r, copy, seed).kind == 1;
+    for (size_t k = 0; k < sizeof others / sizeof *others; k++) expect_name(r, others[k], seed);
+    return named;
+}
+
+void expect_unnamed(const oracle_request *r, oracle_answer grounded, oracle_answer plain)
+{
+    uint8_t sheet[NUNTENNIS_SHEET_BYTES];
+    oracle_request unnamed = *r;
+    if (oracle_depth(r).kind == 2) return;
+    if (grounded.kind == 2) grounded.place = policy_unnamed(sheet, r->sheet, grounded.place);
+    if (plain.kind == 2) plain.place = policy_unnamed(sheet, r->sheet, plain.place);
+    unnamed.sheet = sheet;
+    unnamed.sheet_len = policy_unnamed(sheet, r->sheet, r->sheet_len);
+    if (unnamed.sheet_len == r->sheet_len) return;
+    expect_call(CALL_GROUNDED, &unnamed, grounded, NULL);
+    expect_call(CALL_PLAIN, &unnamed, plain, NULL);
 }

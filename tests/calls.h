@@ -20,6 +20,12 @@ void calls_begin(void);
 // table's words. Then the sheet's depth is asked, and must be the oracle's.
 void expect_call(call c, const oracle_request *r, oracle_answer want, const oracle_table *table);
 
+// Asks for the name of every copy, and of some numbers that no copy has: the answers must be the oracle's. How many have a name.
+unsigned expect_names(const oracle_request *r);
+
+// With the names of a sheet taken out both decisions are these ones, a refusal at the same command. A sheet that 1 or 5 to 12 refuses passes.
+void expect_unnamed(const oracle_request *r, oracle_answer grounded, oracle_answer plain);
+
 // The call that is running, NULL for none: named should it touch a page that it may not.
 void watch(const char *call, const oracle_request *r);
 

@@ -296,6 +296,15 @@ oracle_answer oracle_depth(const oracle_request *r)
     return a.kind == 2 ? a : (oracle_answer){1, p.most_parts, 0};
 }
 
+oracle_answer oracle_name(const oracle_request *r, uint64_t copy)
+{
+    policy p = {0};
+    if (r->sheet_len > 4096) return refused(1, 0);
+    oracle_answer a = read_sheet(r, &p);
+    if (a.kind == 2 || copy >= p.atoms || p.atom_name[copy] == 0) return a;
+    return (oracle_answer){1, p.atom_name[copy], 0};
+}
+
 oracle_answer oracle_check(const oracle_request *r)
 {
     policy p = {0};

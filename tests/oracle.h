@@ -54,6 +54,9 @@ oracle_answer oracle_check(const oracle_request *request);
 // The most parts at once: checks 1 and 5 to 12, and then kind 1.
 oracle_answer oracle_depth(const oracle_request *request);
 
+// Where the name of a copy begins: the same checks, and then kind 1; kind 0 where it has none.
+oracle_answer oracle_name(const oracle_request *request, uint64_t copy);
+
 // Those of the commands before the first fault.
 unsigned oracle_parts(const oracle_request *request);
 

@@ -10,9 +10,15 @@ enum { NONE = 99 };
 static unsigned operands_of(unsigned code)
 {
     if (code == 0x11 || code == 0x12) return 1;
-    if (code == 0x21) return 0;
+    if (code == 0x21 || code == 0x51) return 0;
     if (code == 0x31 || code == 0x41 || code == 0x42 || code == 0x43) return 2;
     return NONE;
+}
+
+// Bytes of a command: its own, and operands or a name.
+static size_t bytes_of(unsigned code)
+{
+    return code == 0x51 ? 1 + POLICY_NAME : 1 + operands_of(code);
 }
 
 static bool is_leaf(unsigned code)
@@ -26,12 +32,12 @@ static bool is_fault(unsigned number, const uint8_t *sheet, size_t sheet_len, si
     unsigned code = sheet[at], operands = operands_of(code);
     switch (number) {
     case 5: return operands == NONE;
-    case 6: return at + 1 + operands > sheet_len;
+    case 6: return at + bytes_of(code) > sheet_len;
     case 7: return (operands >= 1 && sheet[at + 1] >= POLICY_GROUPS) || (operands == 2 && sheet[at + 2] >= POLICY_GROUPS);
     case 8: return operands == 2 && sheet[at + 1] == sheet[at + 2];
     case 9: return (code == 0x11 && before->atoms == 63) || (code == 0x12 && before->rules == 256);
     case 10: return is_leaf(code) && before->parts == 8;
-    default: return (code == 0x21 && before->parts < 2) || (operands == 2 && before->parts == 0);
+    default: return (code == 0x21 && before->parts < 2) || ((operands == 2 || code == 0x51) && before->parts == 0);
     }
 }
 
@@ -45,7 +51,7 @@ unsigned policy_fault(const uint8_t *sheet, size_t sheet_len, size_t at, const p
 policy_command policy_command_at(const uint8_t *sheet, size_t at)
 {
     unsigned operands = operands_of(sheet[at]);
-    policy_command c = {sheet[at], 0, 0, at, at + 1 + operands};
+    policy_command c = {sheet[at], 0, 0, at, at + bytes_of(sheet[at])};
     if (operands >= 1) c.i = sheet[at + 1];
     if (operands == 2) c.j = sheet[at + 2];
     return c;
@@ -78,14 +84,23 @@ static void join(policy *p)
     p->parts--;
 }
 
+// The leaf that appeared last, wherever it stands by now. Names of rules are not kept.
+static void name(policy *p, size_t at)
+{
+    if (p->is_atom_last) p->atom_name[p->atoms - 1] = at;
+}
+
 void policy_apply(policy *p, const policy_command *c)
 {
     switch (c->code) {
     case 0x11:
+        p->is_atom_last = true;
+        p->atom_name[p->atoms] = 0;
         p->atom_label[p->atoms] = (uint8_t)c->i;
         p->atom_part[p->atoms++] = (uint8_t)p->parts++;
         break;
     case 0x12:
+        p->is_atom_last = false;
         p->head[p->rules] = p->positive[p->rules] = p->negative[p->rules] = 0;
         p->rule_label[p->rules] = (uint8_t)c->i;
         p->rule_part[p->rules++] = (uint8_t)p->parts++;
@@ -95,6 +110,7 @@ void policy_apply(policy *p, const policy_command *c)
     case 0x41: link(p, p->head, c->i, c->j); break;
     case 0x42: link(p, p->positive, c->i, c->j); break;
     case 0x43: link(p, p->negative, c->i, c->j); break;
+    case 0x51: name(p, c->offset + 1); break;
     }
     if (p->parts > p->most_parts) p->most_parts = p->parts;
 }
@@ -107,6 +123,17 @@ void policy_build(policy *p, const uint8_t *sheet, size_t sheet_len)
         policy_apply(p, &c);
         at = c.next;
     }
+}
+
+size_t policy_unnamed(uint8_t *to, const uint8_t *sheet, size_t sheet_len)
+{
+    size_t n = 0;
+    for (size_t at = 0; at < sheet_len;) {
+        policy_command c = policy_command_at(sheet, at);
+        if (c.code != 0x51) memcpy(to + n, sheet + at, c.next - at), n += c.next - at;
+        at = c.next;
+    }
+    return n;
 }
 
 bool policy_is_model(const policy *p, uint64_t x)

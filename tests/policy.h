@@ -6,8 +6,8 @@
 #include <stddef.h>
 #include <stdint.h>
 
-// Groups are 0 to 9 (02, Item 12).
-enum { POLICY_GROUPS = 10 };
+// Groups are 0 to 9 (02, Item 12), and a name has sixteen bytes (02, Item 1).
+enum { POLICY_GROUPS = 10, POLICY_NAME = 16 };
 
 typedef struct { unsigned code, i, j; size_t offset, next; } policy_command;
 
@@ -17,6 +17,8 @@ typedef struct {
     uint8_t atom_label[64], atom_part[64];
     uint8_t rule_label[256], rule_part[256];
     uint64_t head[256], positive[256], negative[256];
+    bool is_atom_last;     // of the leaves
+    size_t atom_name[64];  // where the last name of each atom begins; 0 for none, as a leaf stands before every name
 } policy;
 
 // The refusal from 5 to 11 of the command at an offset inside the sheet, or 0; and the command, where it is 0.
@@ -27,6 +29,9 @@ void policy_apply(policy *p, const policy_command *c);
 
 // The policy of a sheet that passes checks 1 to 12.
 void policy_build(policy *p, const uint8_t *sheet, size_t sheet_len);
+
+// The commands of such a sheet, or the first of them, without the names: how many bytes they have.
+size_t policy_unnamed(uint8_t *to, const uint8_t *sheet, size_t sheet_len);
 
 bool policy_obeys(uint64_t interpretation, uint64_t pins_in, uint64_t pins_out);
 bool policy_is_model(const policy *p, uint64_t interpretation);

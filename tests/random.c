@@ -132,13 +132,13 @@ size_t random_policy(random_source *r, uint8_t *sheet, unsigned atoms, unsigned 
     return w.length;
 }
 
-// ---- damage
+// ---- names
 
-static size_t drop_bytes(uint8_t *sheet, size_t sheet_len, size_t at, size_t n)
+enum { NAMED = 1 + POLICY_NAME };
+
+static size_t bytes_of(unsigned code)
 {
-    if (n > sheet_len - at) n = sheet_len - at;
-    memmove(sheet + at, sheet + at + n, sheet_len - at - n);
-    return sheet_len - n;
+    return code == 0x21 ? 1 : code < 0x21 ? 2 : code == 0x51 ? NAMED : 3;
 }
 
 static size_t add_bytes(uint8_t *sheet, size_t sheet_len, size_t at, const uint8_t *bytes, size_t n)
@@ -148,23 +148,62 @@ static size_t add_bytes(uint8_t *sheet, size_t sheet_len, size_t at, const uint8
     return sheet_len + n;
 }
 
+static const uint8_t codes[] = {0x11, 0x12, 0x21, 0x31, 0x41, 0x42, 0x43, 0x51};
+
+// Of text, of command bytes, of 0 and 255, or of anything.
+static void random_name(random_source *r, uint8_t *name)
+{
+    unsigned kind = random_below(r, 4);
+    for (unsigned k = 0; k < POLICY_NAME; k++)
+        switch (kind) {
+        case 0: name[k] = (uint8_t)(' ' + random_below(r, 95)); break;
+        case 1: name[k] = codes[random_below(r, sizeof codes)]; break;
+        case 2: name[k] = random_below(r, 2) ? 255 : 0; break;
+        default: name[k] = (uint8_t)random_next(r);
+        }
+}
+
+static size_t add_name(random_source *r, uint8_t *sheet, size_t sheet_len, size_t at)
+{
+    uint8_t bytes[NAMED] = {0x51};
+    random_name(r, bytes + 1);
+    return add_bytes(sheet, sheet_len, at, bytes, NAMED);
+}
+
+size_t random_names(random_source *r, uint8_t *sheet, size_t sheet_len)
+{
+    for (size_t at = 0; at < sheet_len;) {
+        at += bytes_of(sheet[at]);
+        if (sheet_len + NAMED <= 4096 && random_below(r, 4) == 0) sheet_len = add_name(r, sheet, sheet_len, at);
+    }
+    return sheet_len;
+}
+
+// ---- damage
+
+static size_t drop_bytes(uint8_t *sheet, size_t sheet_len, size_t at, size_t n)
+{
+    if (n > sheet_len - at) n = sheet_len - at;
+    memmove(sheet + at, sheet + at + n, sheet_len - at - n);
+    return sheet_len - n;
+}
+
 // A command or a run of leaves, somewhere.
 static size_t add_command(random_source *r, uint8_t *sheet, size_t sheet_len, size_t at)
 {
-    static const uint8_t codes[] = {0x11, 0x12, 0x21, 0x31, 0x41, 0x42, 0x43};
     uint8_t bytes[3];
     bytes[0] = codes[random_below(r, sizeof codes)];
     bytes[1] = (uint8_t)random_below(r, POLICY_GROUPS);
     bytes[2] = (uint8_t)random_below(r, POLICY_GROUPS);
-    bool is_leaf = bytes[0] < 0x21;
-    unsigned times = is_leaf && random_below(r, 2) ? 9 : 1;
-    for (; times > 0; times--) sheet_len = add_bytes(sheet, sheet_len, at, bytes, bytes[0] == 0x21 ? 1 : is_leaf ? 2 : 3);
+    if (bytes[0] == 0x51) return add_name(r, sheet, sheet_len, at);
+    unsigned times = bytes[0] < 0x21 && random_below(r, 2) ? 9 : 1;
+    for (; times > 0; times--) sheet_len = add_bytes(sheet, sheet_len, at, bytes, bytes_of(bytes[0]));
     return sheet_len;
 }
 
 static uint8_t random_byte(random_source *r)
 {
-    static const uint8_t usual[] = {0x11, 0x12, 0x21, 0x31, 0x41, 0x42, 0x43, 0x51, 0, 1, 2, POLICY_GROUPS - 1, POLICY_GROUPS, 255};
+    static const uint8_t usual[] = {0x11, 0x12, 0x21, 0x31, 0x41, 0x42, 0x43, 0x51, 0x52, 0, 1, 2, POLICY_GROUPS - 1, POLICY_GROUPS, 255};
     return random_below(r, 3) == 0 ? (uint8_t)random_next(r) : usual[random_below(r, sizeof usual)];
 }
 

@@ -1,4 +1,4 @@
-// Decisions and reports with known answers: document 01's sheets to try, the order of the checks, the limits of a sheet, short buffers, rooms.
+// Decisions, reports and names with known answers: document 01's sheets to try, the order of the checks, the limits of a sheet, short buffers, rooms.
 #include "calls.h"
 
 #include <inttypes.h>
@@ -23,6 +23,12 @@ typedef struct {
 #define WIDER_WITHOUT \
     "11 04 12 01 21 12 02 21 12 03 21 43 04 01 43 04 02 43 04 03 11 06 21" \
     "11 05 21 41 05 01 31 05 00 11 05 21 41 05 02 31 05 00 11 05 21 41 05 03 31 05 00 11 05 11 07 21 21"
+// Names: "archive", "mirror", and bytes that are commands and faults elsewhere.
+#define ARCHIVE "61 72 63 68 69 76 65 00 00 00 00 00 00 00 00 00"
+#define MIRROR "6D 69 72 72 6F 72 20 20 20 20 20 20 20 20 20 20"
+#define COMMANDS "21 11 00 12 0A 31 02 02 51 41 FF 43 99 00 FF 51"
+// Copy 0 by the name that it got last, copy 1 by one that it got behind a join, and the rule by one that is not handed back.
+#define NAMED "11 00 51 " MIRROR " 51 " ARCHIVE " 11 00 21 51 " COMMANDS " 12 01 51 " MIRROR " 21 51 " COMMANDS " 41 00 01 51 " MIRROR
 #define YES(plan) {1, plan, 0}
 #define NO {0, 0, 0}
 #define REFUSED(number, place) {2, number, place}
@@ -74,7 +80,7 @@ static const trial trials[] = {
     {"a link on nothing", "41 00 01", 32, 32, 0, 0, REFUSED(11, 0), REFUSED(11, 0)},
     {"a move on nothing", "31 00 01", 32, 32, 0, 0, REFUSED(11, 0), REFUSED(11, 0)},
     {"a join of one part", "11 00 21", 32, 32, 0, 0, REFUSED(11, 2), REFUSED(11, 2)},
-    {"unknown byte", "11 00 51", 32, 32, 0, 0, REFUSED(5, 2), REFUSED(5, 2)},
+    {"unknown byte", "11 00 52", 32, 32, 0, 0, REFUSED(5, 2), REFUSED(5, 2)},
     {"clash", LISTED, 32, 32, 1, 1, REFUSED(4, 0), REFUSED(4, 0)},
     {"clash on bit 63", LISTED, 32, 32, BIT63, BIT63, REFUSED(13, 8), REFUSED(13, 8)},
     {"clash on copy 40 of five", FIVE, 32, 32, COPY40, COPY40, REFUSED(13, 14), REFUSED(13, 14)},
@@ -95,6 +101,22 @@ static const trial trials[] = {
     {"15 at a pair of a plan with fewer copies, past the P-th", WIDER_WITHOUT, 4, 47, 28, 0, REFUSED(15, 55), REFUSED(16, 55)},
     {"that table under the least G", WIDER_WITHOUT, 16, 63, 28, 0, YES(28), YES(0)},
     {"16 in an older part", "11 00 11 01 21 11 02 21", 3, 32, 0, 0, REFUSED(16, 4), REFUSED(16, 4)},
+    // 02, Item 1: names
+    {"a named copy", "11 00 51 " ARCHIVE, 32, 32, 0, 0, YES(0), YES(0)},
+    {"a named rule", "12 00 51 " ARCHIVE, 32, 32, 0, 0, NO, NO},
+    {"a name is no link", "11 00 12 00 21 51 " COMMANDS, 32, 32, 0, 0, NO, NO},
+    {"either of two, all named", NAMED, 32, 32, 0, 0, YES(2), YES(0)},
+    {"either of two, all named, copy 0 pinned in", NAMED, 32, 32, 1, 0, YES(1), YES(0)},
+    {"both of two, all named", NAMED, 32, 32, 3, 0, NO, YES(0)},
+    {"absent behind names", NAMED, 32, 32, 4, 0, REFUSED(13, 113), REFUSED(13, 113)},
+    {"clash on a named copy", NAMED, 32, 32, 2, 2, REFUSED(4, 0), REFUSED(4, 0)},
+    {"16 at a leaf, not at its name", NAMED, 1, 32, 0, 0, REFUSED(16, 0), REFUSED(16, 0)},
+    {"16 at a join behind names", NAMED, 2, 32, 0, 0, REFUSED(16, 38), REFUSED(16, 38)},
+    {"15 at that join", NAMED, 3, 1, 0, 0, REFUSED(15, 38), YES(0)},
+    {"unjoined behind a name", "11 00 11 01 51 " ARCHIVE, 32, 32, 0, 0, REFUSED(12, 21), REFUSED(12, 21)},
+    {"a fault behind a name", "11 00 51 " COMMANDS " 99", 32, 32, 0, 0, REFUSED(5, 19), REFUSED(5, 19)},
+    {"a name on nothing", "51 " ARCHIVE, 32, 32, 0, 0, REFUSED(11, 0), REFUSED(11, 0)},
+    {"a name on nothing, of command bytes", "51 " COMMANDS " 11 00", 32, 32, 0, 0, REFUSED(11, 0), REFUSED(11, 0)},
 };
 
 static size_t read_hex(const char *hex, uint8_t *bytes)
@@ -127,13 +149,15 @@ static void check_oracle(const oracle_request *r, const trial *t)
 
 static void try_sheet(const trial *t)
 {
-    uint8_t sheet[100];
+    uint8_t sheet[200];
     oracle_request r = {sheet, read_hex(t->hex, sheet), t->plan_limit, t->subset_limit, t->pins_in, t->pins_out, 0, 0, 0, 3};
     r.workspace_len = need_of(&r);
     case_name = t->name;
     check_oracle(&r, t);
     expect_call(CALL_GROUNDED, &r, t->grounded, NULL);
     expect_call(CALL_PLAIN, &r, t->plain, NULL);
+    expect_unnamed(&r, t->grounded, t->plain);
+    expect_names(&r);
 }
 
 static void try_sheets(void)
@@ -179,6 +203,149 @@ static void try_listed_reports(void)
     printf("reports of the listed sheet: 13 agree\n");
 }
 
+// ---- names (02, Item 1)
+
+typedef struct { const char *name, *hex; uint64_t copy; oracle_answer want; } naming;
+
+#define AT(offset) {1, offset, 0}
+#define NAMELESS NO
+
+static const naming namings[] = {
+    {"a copy", "11 00 51 " ARCHIVE, 0, AT(3)},
+    {"of zeros", "11 00 51 00 00 00 00 00 00 00 00 00 00 00 00 00 00 00 00", 0, AT(3)},
+    {"of command bytes", "11 00 51 " COMMANDS, 0, AT(3)},
+    {"no name", "11 00", 0, NAMELESS},
+    {"no such copy", "11 00 51 " ARCHIVE, 1, NAMELESS},
+    {"named again", "11 00 51 " ARCHIVE " 51 " MIRROR, 0, AT(20)},
+    {"named again behind a link", "11 00 51 " ARCHIVE " 41 00 01 51 " MIRROR, 0, AT(23)},
+    {"behind a join", "11 00 11 01 21 51 " ARCHIVE, 1, AT(6)},
+    {"before that join", "11 00 11 01 21 51 " ARCHIVE, 0, NAMELESS},
+    {"both parts of a join", "11 00 51 " ARCHIVE " 11 01 51 " MIRROR " 21", 0, AT(3)},
+    {"both parts of a join", "11 00 51 " ARCHIVE " 11 01 51 " MIRROR " 21", 1, AT(22)},
+    {"a rule", "12 00 51 " ARCHIVE, 0, NAMELESS},
+    {"behind a rule", "11 00 12 01 51 " ARCHIVE " 21", 0, NAMELESS},
+    {"behind a rule's join", "11 00 12 01 21 51 " ARCHIVE, 0, NAMELESS},
+    {"named before a rule is", "11 00 51 " ARCHIVE " 12 01 51 " MIRROR " 21", 0, AT(3)},
+    {"a copy behind a named rule", "12 00 51 " MIRROR " 11 01 51 " ARCHIVE " 21", 0, AT(22)},
+    {"the newest, not the copy in the newest part", "11 00 11 01 11 02 21 21 51 " ARCHIVE, 2, AT(9)},
+    {"all named, copy 0", NAMED, 0, AT(20)},
+    {"all named, copy 1", NAMED, 1, AT(40)},
+    {"all named, copy 2", NAMED, 2, NAMELESS},
+    {"bit 63", NAMED, 63, NAMELESS},
+    {"copy 64", NAMED, 64, NAMELESS},
+    {"copy 2^32", NAMED, (uint64_t)1 << 32, NAMELESS},
+    {"copy 2^32 and 1", NAMED, ((uint64_t)1 << 32) + 1, NAMELESS},
+    {"the greatest number", NAMED, UINT64_MAX, NAMELESS},
+    {"empty", "", 0, REFUSED(12, 0)},
+    {"unjoined", "11 00 51 " ARCHIVE " 11 01", 0, REFUSED(12, 21)},
+    {"a fault behind the name", "11 00 51 " ARCHIVE " 99", 0, REFUSED(5, 19)},
+    {"a fault, and no such copy", "11 0A", UINT64_MAX, REFUSED(7, 0)},
+};
+
+// Held to the answer by itself, and so is the oracle; then every other copy is asked.
+static void try_naming(const naming *t)
+{
+    uint8_t sheet[200];
+    uint64_t answer[3];
+    oracle_request r = {sheet, read_hex(t->hex, sheet), 32, 32, 0, 0, 0, 0, 0, 3};
+    case_name = t->name;
+    if (!is_equal(oracle_name(&r, t->copy), t->want)) disagree("the oracle", &r, "the name of copy %" PRIu64, t->copy);
+    nuntennis_name(sheet, r.sheet_len, t->copy, answer, 3);
+    if (!is_equal((oracle_answer){answer[0], answer[1], answer[2]}, t->want)) disagree("nuntennis_name", &r, "copy %" PRIu64, t->copy);
+    expect_names(&r);
+}
+
+static void try_namings(void)
+{
+    size_t n = sizeof namings / sizeof namings[0];
+    for (case_number = 0; case_number < n; case_number++) try_naming(&namings[case_number]);
+    printf("names: %zu agree\n", n);
+}
+
+// A slice of under three words stays as it was; of a longer one the words past the third do.
+static void try_name_slices(void)
+{
+    static const char *const sheets[] = {NAMED, "11 00", "11 00 51"};
+    uint8_t sheet[200];
+    oracle_request r = {sheet, 0, 32, 32, 0, 0, 0, 0, 0, 0};
+    case_name = "answer slices of names";
+    for (case_number = 0; case_number < 3; case_number++) {
+        r.sheet_len = read_hex(sheets[case_number], sheet);
+        for (r.answer_len = 0; r.answer_len < 6; r.answer_len++) expect_names(&r);
+    }
+    printf("answer slices of names: 18 agree\n");
+}
+
+static void expect_refused(oracle_request *r, const char *name, unsigned number, size_t place)
+{
+    case_name = name;
+    expect_call(CALL_GROUNDED, r, (oracle_answer)REFUSED(number, place), NULL);
+    expect_call(CALL_PLAIN, r, (oracle_answer)REFUSED(number, place), NULL);
+    expect_names(r);
+}
+
+// With 0 to 15 of its bytes a name is cut, whatever they are, and that comes before bare.
+static void try_cut_names(void)
+{
+    static const char *const names[] = {ARCHIVE, COMMANDS};
+    uint8_t sheet[3 + POLICY_NAME] = {0x11, 0x00, 0x51};
+    oracle_request r = {sheet, 0, 32, 32, 0, 0, 0, 0, 0, 3};
+    for (unsigned k = 0; k < 2; k++) {
+        read_hex(names[k], sheet + 3);
+        for (size_t n = 0; n < POLICY_NAME; n++) {
+            r.sheet = sheet;
+            r.sheet_len = 3 + n;
+            expect_refused(&r, "a cut name", 6, 2);
+            r.sheet = sheet + 2;
+            r.sheet_len = 1 + n;
+            expect_refused(&r, "a cut name on nothing", 6, 0);
+        }
+        r.sheet_len = 1 + POLICY_NAME;
+        expect_refused(&r, "a whole name on nothing", 11, 0);
+    }
+    printf("cut names: 66 agree\n");
+}
+
+// The table after a step that a report writes.
+static const oracle_table *table_of(const oracle_step *s, call c)
+{
+    return c == CALL_REPORT ? &s->pairs : &s->triples;
+}
+
+// At a 51 the table of the command before it, to the word; inside its name 14.
+static void try_named_report(oracle_request r, call c, const oracle_step *s)
+{
+    const oracle_table *before = table_of(s - 1, c);
+    oracle_answer want = {1, before->entries, before->length};
+    r.report_len = before->length;
+    r.asked = s[-1].command.offset;
+    expect_call(c, &r, want, before);
+    r.asked = s->command.offset;
+    expect_call(c, &r, want, before);
+    r.report_len--;
+    expect_call(c, &r, (oracle_answer)REFUSED(17, r.asked), NULL);
+    r.report_len = 50;
+    for (r.asked++; r.asked < s->command.next; r.asked++) expect_call(c, &r, (oracle_answer)REFUSED(14, r.asked), NULL);
+}
+
+static void try_named_reports(void)
+{
+    uint8_t sheet[200];
+    unsigned n = 0;
+    oracle_request r = {sheet, read_hex(NAMED, sheet), 32, 32, 0, 0, 0, 0, 0, 3};
+    oracle_history h = oracle_walk(sheet, r.sheet_len, 0, 0);
+    r.workspace_len = need_of(&r);
+    case_name = "reports of the named sheet";
+    for (size_t k = 1; k < h.steps; k++) {
+        if (h.step[k].command.code != 0x51) continue;
+        try_named_report(r, CALL_REPORT, &h.step[k]);
+        try_named_report(r, CALL_PLAIN_REPORT, &h.step[k]);
+        n += 38;
+    }
+    oracle_forget(&h);
+    printf("reports of a named sheet: %u agree\n", n);
+}
+
 static void try_short_buffers(void)
 {
     uint8_t sheet[16];
@@ -213,6 +380,18 @@ static size_t leaves(uint8_t *sheet, unsigned atoms, unsigned rules, unsigned ap
     return n;
 }
 
+// Seventeen copies, each joined to those before it and named fourteen times: just 4096 bytes. No two names are alike.
+static size_t full_of_names(uint8_t *sheet)
+{
+    size_t n = 0;
+    for (unsigned k = 0; k < 17 * 14; k++) {
+        if (k % 14 == 0) memcpy(sheet + n, "\x11\x00\x21", 3), n += k > 0 ? 3 : 2;
+        sheet[n++] = 0x51;
+        for (unsigned b = 0; b < POLICY_NAME; b++) sheet[n++] = (uint8_t)(k + 17 * b);
+    }
+    return n;
+}
+
 // Moves there and back, to a given length.
 static size_t lengthen(uint8_t *sheet, size_t n, size_t end)
 {
@@ -227,6 +406,8 @@ static void expect_both(oracle_request *r, const char *name, oracle_answer want)
     r->workspace_len = need_of(r);
     expect_call(CALL_GROUNDED, r, want, NULL);
     expect_call(CALL_PLAIN, r, want, NULL);
+    expect_unnamed(r, want, want);
+    expect_names(r);
 }
 
 static void try_limits(void)
@@ -246,7 +427,7 @@ static void try_limits(void)
     r.sheet_len = leaves(sheet, 63, 0, 8);
     expect_both(&r, "ninth part", (oracle_answer)REFUSED(10, r.sheet_len - 2));
     r.sheet_len = lengthen(sheet, leaves(sheet, 3, 0, 0), 4096);
-    expect_both(&r, "4094 bytes, the longest without a fault", (oracle_answer)YES(0));
+    expect_both(&r, "4094 bytes, the longest without a fault or a name", (oracle_answer)YES(0));
     memcpy(sheet + 4094, "\x11\x00\x21", 3);
     r.sheet_len = 4096;
     expect_both(&r, "4096 bytes", (oracle_answer)REFUSED(12, 4096));
@@ -254,7 +435,16 @@ static void try_limits(void)
     expect_both(&r, "4097 bytes", (oracle_answer)REFUSED(1, 0));
     r.plan_limit = 0;
     expect_both(&r, "overlong before limits", (oracle_answer)REFUSED(1, 0));
-    printf("limits of a sheet: 20 agree\n");
+    r.plan_limit = 8;
+    r.sheet_len = full_of_names(sheet);
+    expect_both(&r, "4096 bytes, full of names", (oracle_answer)YES(0));
+    if (r.sheet_len != 4096 || expect_names(&r) != 17) disagree("the test", &r, "not 4096 bytes, or not 17 names");
+    r.sheet_len = 4095;
+    expect_both(&r, "the last name cut", (oracle_answer)REFUSED(6, 4079));
+    sheet[4096] = 0x51;
+    r.sheet_len = 4097;
+    expect_both(&r, "overlong by names", (oracle_answer)REFUSED(1, 0));
+    printf("limits of a sheet: 26 agree\n");
 }
 
 // ---- the room (02, Item 8): an area for each of the parts at once, and one more
@@ -335,6 +525,10 @@ int main(void)
     calls_begin();
     try_sheets();
     try_listed_reports();
+    try_namings();
+    try_name_slices();
+    try_cut_names();
+    try_named_reports();
     try_short_buffers();
     try_limits();
     try_rooms();

@@ -178,6 +178,53 @@ expect 5 'text.hex:2: a second answer of its kind: plain 1 0 0' "$host" text.hex
 text '#: answer 1 1 0\n#: plain 1 0 0\n#: answer 1 2 0\n11 00\n'
 expect 5 'text.hex:3: a second answer of its kind: answer 1 2 0' "$host" text.hex
 
+# ---- names: text is shown, anything else is not, and a faulty sheet gives none
+keeps='yes: the first grounded plan keeps these copies:'
+expect 0 "$keeps 0 \"archive\", 2" "$host" "$sheets/named.hex"
+expect 0 "$keeps 0 \"archive\", 1 \"mirror\"" "$host" -o 2 "$sheets/named.hex"
+expect 0 'pinned in: 1 "mirror"; pinned out: 2' "$host" -i 1 -o 2 "$sheets/named.hex"
+expect 2 'refused: 4 clash: a copy is pinned in and out: 0 "archive", 1 "mirror"' "$host" -i 0,1 -o 0,1,2 "$sheets/named.hex"
+expect 2 'refused: 13 absent at byte 131' "$host" -i 3 "$sheets/named.hex"
+expect 2 'pinned in: 3;' "$host" -i 3 "$sheets/named.hex"
+expect 2 'refused: 16 plans full at byte 38' "$host" -p 2 "$sheets/named.hex"
+expect 2 '  behind the name of copy 0 "archive"' "$host" -p 2 "$sheets/named.hex"
+expect 1 '0' sh -c '"$0" -p 1 "$1" | grep -cF "behind the name"' "$host" "$sheets/named.hex"
+expect 2 'refused: 6 cut at byte 19' "$host" "$sheets/refused_name.hex"
+expect 2 'pinned in: 0;' "$host" -i 0 "$sheets/refused_name.hex"
+expect 0 'a name may stand in quotes, as in 51 "archive"' "$host" --help
+called() { printf '11 00 51 %s 12 01 21 41 00 01\n' "$1" >called.hex; }
+called '"sixteen letters."'
+expect 0 "$keeps 0 \"sixteen letters.\"" "$host" called.hex
+called '"off # site  "'
+expect 0 "$keeps 0 \"off # site\"" "$host" called.hex
+called '61 22 2C 20 32 20 22 5C 62 20 20 20 20 20 00 00'
+expect 0 "$keeps 0 \"a\\\", 2 \\\"\\\\b\"" "$host" called.hex
+printf '%s 0\n' "$keeps" >number
+for bytes in '""' '20 20 20 20 20 20 20 20 20 20 20 20 20 20 20 20' '61 62 63 00 64 00 00 00 00 00 00 00 00 00 00 00' \
+    '61 62 63 0A 64 65 66 20 20 20 20 20 20 20 20 20' '1B 5B 33 31 6D 61 62 63 20 20 20 20 20 20 20 20' \
+    '61 7F 00 00 00 00 00 00 00 00 00 00 00 00 00 00' 'C3 A9 74 C3 A9 00 00 00 00 00 00 00 00 00 00 00'; do
+    called "$bytes"
+    expect 0 '' sh -c '"$0" called.hex | grep -xFf number' "$host"
+done
+called '"sixteen letters, and more"'
+expect 5 'called.hex:1: a name of over 16 bytes: "sixteen letters, and more" 12 01 21' "$host" called.hex
+called '"archive # 21'
+expect 5 'called.hex:1: a name without its second quote: "archive # 21' "$host" called.hex
+called '"archive" "mirror"'
+expect 5 'called.hex:1: a name, but no 51 before it: "mirror" 12' "$host" called.hex
+text '"archive"\n'
+expect 5 'text.hex:1: a name, but no 51 before it: "archive"' "$host" --hex text.hex
+printf '\021\000Qarchive\000\000\000\000\000\000\000\000\000\022\001\041\101\000\001' >named.bin
+expect 0 'named.bin, read as raw bytes: 25 bytes' "$host" named.bin
+expect 0 "$keeps 0 \"archive\"" "$host" named.bin
+printf '\021\000Q11 00 # folder 1' >digits.bin
+expect 0 'digits.bin, read as raw bytes: 19 bytes' "$host" digits.bin
+printf 'Q11 00 # folder 1' >nothing.bin
+expect 6 'It begins with byte 51, not as text' "$host" nothing.bin
+expect 2 'refused: 11 bare at byte 0' "$host" --raw nothing.bin
+for k in $(seq 200); do echo '51 ""'; done | sed '1s/^/11 00 /' >names.hex
+expect 0 'read as hexadecimal text: 3402 bytes' "$host" names.hex
+
 # ---- no memory, no room for the output: a sheet of eight parts at once needs three times the words of one of two, which there are
 echo '11 00 11 00 11 00 11 00 11 00 11 00 11 00 11 00 21 21 21 21 21 21 21' >eight.hex
 expect 7 'host: no memory for 9455616 words' short_of_memory "$host" -p 1024 -g 1024 eight.hex

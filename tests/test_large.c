@@ -11,7 +11,7 @@
 
 static uint32_t *workspace, *report;
 
-typedef struct { uint64_t sheets, calls, refused, steps; } tally;
+typedef struct { uint64_t sheets, calls, refused, steps, named; } tally;
 
 // ---- what is wanted, by the reference
 
@@ -107,8 +107,15 @@ static void try_walk(oracle_request r, random_source *s, tally *n)
 static size_t random_start(random_source *s, const oracle_request *r)
 {
     size_t starts[4096], n = 0;
-    for (size_t at = 0; at < r->sheet_len; at += r->sheet[at] == 0x21 ? 1 : r->sheet[at] < 0x21 ? 2 : 3) starts[n++] = at;
+    for (size_t at = 0; at < r->sheet_len; at = policy_command_at(r->sheet, at).next) starts[n++] = at;
     return starts[random_below(s, (unsigned)n)];
+}
+
+// The names are the oracle's, and without them the archive decides as the C does with them.
+static void try_names(const oracle_request *r, tally *n)
+{
+    expect_unnamed(r, wanted(CALL_GROUNDED, r), wanted(CALL_PLAIN, r));
+    n->named += expect_names(r);
 }
 
 static void try_sheet(oracle_request r, random_source *s, tally *n)
@@ -123,6 +130,7 @@ static void try_sheet(oracle_request r, random_source *s, tally *n)
         try_call(CALL_PLAIN_REPORT, &r, n);
         r.report_len = 0;
     }
+    try_names(&r, n);
     n->sheets++;
 }
 
@@ -163,6 +171,7 @@ static void try_random(random_source *s, tally *n)
     r.plan_limit = 1 + random_below(s, 200);
     r.subset_limit = 1 + random_below(s, 200);
     r.sheet_len = random_parts(s, sheet, atoms, rules, labels);
+    if (random_below(s, 2)) r.sheet_len = random_names(s, sheet, r.sheet_len);
     r.pins_in = random_mask(s, atoms, 8);
     r.pins_out = random_mask(s, atoms, 8) & ~r.pins_in;
     try_sheet(r, s, n);
@@ -180,8 +189,8 @@ int main(int arguments, char **argument)
     try_families(&s, &n);
     case_name = "large random sheet";
     for (case_number = 0; case_number < sheets; case_number++) try_random(&s, &n);
-    printf("test_large: %" PRIu64 " sheets, %" PRIu64 " calls (%" PRIu64 " refused), %" PRIu64 " steps: all agree\n", n.sheets, n.calls, n.refused,
-           n.steps);
+    printf("test_large: %" PRIu64 " sheets, %" PRIu64 " calls (%" PRIu64 " refused), %" PRIu64 " steps, %" PRIu64 " named copies: all agree\n",
+           n.sheets, n.calls, n.refused, n.steps, n.named);
     free(workspace);
     free(report);
     return 0;

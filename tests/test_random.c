@@ -1,4 +1,4 @@
-// Decisions and reports on random sheets (sound, damaged, with tight limits, with pins) against the oracle.
+// Decisions, reports and names on random sheets (sound, damaged, with names, with tight limits, with pins) against the oracle.
 #include "calls.h"
 #include "random.h"
 
@@ -6,7 +6,7 @@
 #include <stdio.h>
 #include <stdlib.h>
 
-typedef struct { uint64_t sheets, calls, yes, no, reported, refused[19], ordered, short_answers; } tally;
+typedef struct { uint64_t sheets, calls, yes, no, reported, refused[19], ordered, short_answers, named, at_names, in_names; } tally;
 
 static void count(tally *n, const oracle_request *r, oracle_answer a, bool is_report)
 {
@@ -34,6 +34,7 @@ static size_t random_sheet(random_source *s, uint8_t *sheet)
     if (atoms + rules == 0) return 0;
     size_t n = random_below(s, 2) ? random_parts(s, sheet, atoms, rules, 2 + random_below(s, POLICY_GROUPS - 1))
                                   : random_policy(s, sheet, atoms, rules, 1 + random_below(s, POLICY_GROUPS - 2));
+    if (random_below(s, 2)) n = random_names(s, sheet, n);
     return random_below(s, 4) == 0 ? random_damage(s, sheet, n) : n;
 }
 
@@ -99,6 +100,8 @@ static void try_decisions(const oracle_request *r, const oracle_history *h, tall
     expect_call(CALL_PLAIN, r, plain, NULL);
     count(n, r, grounded, false);
     count(n, r, plain, false);
+    expect_unnamed(r, grounded, plain);
+    n->named += expect_names(r);
 }
 
 // The words that the report asked for needs, if it needs any.
@@ -107,6 +110,17 @@ static size_t words_of(const oracle_history *h, size_t asked, bool is_plain)
     for (size_t k = 0; k < h->steps; k++)
         if (h->step[k].command.offset == asked) return is_plain ? h->step[k].triples.length : h->step[k].pairs.length;
     return 3;
+}
+
+// Reports asked at a 51, and inside its name.
+static void count_names(tally *n, const oracle_history *h, size_t asked)
+{
+    for (size_t k = 0; k < h->steps; k++) {
+        const policy_command *c = &h->step[k].command;
+        if (c->code != 0x51) continue;
+        n->at_names += asked == c->offset;
+        n->in_names += asked > c->offset && asked < c->next;
+    }
 }
 
 static void try_report(random_source *s, oracle_request r, const oracle_history *h, tally *n, bool is_plain)
@@ -119,6 +133,7 @@ static void try_report(random_source *s, oracle_request r, const oracle_history 
     expect_call(is_plain ? CALL_PLAIN_REPORT : CALL_REPORT, &r, want, table);
     if (table && !is_plain) count_ordered(n, table);
     count(n, &r, want, true);
+    count_names(n, h, r.asked);
 }
 
 static void try_reports(random_source *s, oracle_request r, const oracle_history *h, tally *n)
@@ -158,13 +173,15 @@ static void print_tally(const tally *n)
            n->short_answers);
     for (unsigned k = 2; k <= 17; k++) printf(" [%u] %" PRIu64, k, n->refused[k]);
     printf("\n");
-    printf("  reports with a longer subset list before a shorter one: %" PRIu64 "\n", n->ordered);
+    printf("  reports with a longer subset list before a shorter one: %" PRIu64 "; at a 51 %" PRIu64 ", inside its name %" PRIu64 "\n", n->ordered,
+           n->at_names, n->in_names);
+    printf("  copies with a name: %" PRIu64 "\n", n->named);
 }
 
 // Every outcome must have come up, or the sheets test less than they seem to. 64 copies (9) are tried apart.
 static void check_tally(const tally *n)
 {
-    bool is_thin = n->yes < 100 || n->no < 100 || n->reported < 100 || n->ordered < 10;
+    bool is_thin = n->yes < 100 || n->no < 100 || n->reported < 100 || n->ordered < 10 || n->named < 100 || n->at_names < 100 || n->in_names < 100;
     for (unsigned k = 2; k <= 17; k++)
         if (k != 9 && n->refused[k] < 10) is_thin = true;
     if (!is_thin) return;

@@ -1,4 +1,4 @@
-// The sheets of examples/sheets give the answers that stand in their own files.
+// The sheets of examples/sheets give the answers that stand in their own files, and the oracle's names.
 #include "calls.h"
 #include "sheet_file.h"
 
@@ -14,10 +14,13 @@ static bool try_file(const char *path)
         return false;
     }
     oracle_request r = {f.sheet, f.sheet_len, f.plan_limit, f.subset_limit, f.pins_in, f.pins_out, 0, 0, 0, 3};
+    oracle_answer answer = {f.answer[0], f.answer[1], f.answer[2]}, plain = {f.plain[0], f.plain[1], f.plain[2]};
     r.workspace_len = need_of(&r);
     case_name = path;
-    expect_call(CALL_GROUNDED, &r, (oracle_answer){f.answer[0], f.answer[1], f.answer[2]}, NULL);
-    expect_call(CALL_PLAIN, &r, (oracle_answer){f.plain[0], f.plain[1], f.plain[2]}, NULL);
+    expect_call(CALL_GROUNDED, &r, answer, NULL);
+    expect_call(CALL_PLAIN, &r, plain, NULL);
+    expect_unnamed(&r, answer, plain);
+    expect_names(&r);
     sheet_file_free(&f);
     return true;
 }

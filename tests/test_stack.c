@@ -25,6 +25,11 @@ static void call_depth(const instance *x, room *r)
     nuntennis_depth(x->sheet, x->sheet_len, r->answer, 3);
 }
 
+static void call_name(const instance *x, room *r)
+{
+    nuntennis_name(x->sheet, x->sheet_len, 1, r->answer, 3);
+}
+
 static void call_grounded(const instance *x, room *r)
 {
     nuntennis_grounded(x->sheet, x->sheet_len, x->plan_limit, x->subset_limit, x->pins_in, x->pins_out, r->workspace, words, r->answer, 3);
@@ -66,10 +71,11 @@ static void call_walk(const instance *x, room *r)
 
 typedef void call(const instance *, room *);
 
-enum { CALLS = 6 };
+enum { CALLS = 7 };
 
 static const struct { const char *name; call *call; } calls[CALLS] = {
     {"depth", call_depth},
+    {"name", call_name},
     {"grounded", call_grounded},
     {"plain", call_plain},
     {"report", call_report},

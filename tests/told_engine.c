@@ -18,6 +18,14 @@ uint64_t nuntennis_depth(const uint8_t *sheet, size_t sheet_len, uint64_t *answe
     return 1;
 }
 
+// No names, whatever the sheet.
+uint64_t nuntennis_name(const uint8_t *sheet, size_t sheet_len, uint64_t copy, uint64_t *answer, size_t answer_len)
+{
+    answer[0] = NUNTENNIS_NAMELESS;
+    answer[1] = answer[2] = 0;
+    return 1;
+}
+
 uint64_t nuntennis_grounded(const uint8_t *sheet, size_t sheet_len,
                             uint64_t plan_limit, uint64_t subset_limit, uint64_t pins_in, uint64_t pins_out,
                             uint32_t *workspace, size_t workspace_len,
