@@ -1,5 +1,6 @@
 // Sheets by family: each policy is written copy by copy, with the copies that later rules still name in groups of their own.
 #include "families.h"
+#include "policy.h"
 
 #include <stdio.h>
 #include <stdlib.h>
@@ -148,11 +149,10 @@ static void named(instance **next, const char *family, const instance *from, uns
     instance *x = begin(next, family, from->plan_limit, from->subset_limit);
     x->pins_in = from->pins_in;
     x->pins_out = from->pins_out;
-    for (size_t at = 0, end; at < from->sheet_len; at = end) {
-        unsigned code = from->sheet[at];
-        end = at + (code == 0x21 ? 1 : code < 0x21 ? 2 : 3);
-        for (size_t k = at; k < end; k++) put(x, from->sheet[k]);
-        if (code <= last_code) put_name(x, "folder, in place");
+    for (size_t at = 0; at < from->sheet_len;) {
+        policy_command c = policy_command_at(from->sheet, at);
+        for (; at < c.next; at++) put(x, from->sheet[at]);
+        if (c.code <= last_code) put_name(x, "folder, in place");
     }
 }
 

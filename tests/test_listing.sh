@@ -50,6 +50,14 @@ table 2
 2098176 0
 ' ''
 
+printf '\021\000\022\001\041\101\000\001\121archive and more' | list
+expect 'the same with a name behind it' 'answer 1 1 0
+plain 1 0 0
+table 2
+1 1 2098176
+2098176 0
+' ''
+
 { printf '\021'; sleep 0.2; printf '\011'; } | list
 expect '11 09, a byte at a time' 'answer 1 0 0
 plain 1 0 0

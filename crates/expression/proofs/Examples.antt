@@ -9,11 +9,14 @@ use Rattle.labels.specs.Labels.{labelCount}
 use Rattle.expression.specs.declared.Checked.{Checked}
 use Rattle.expression.specs.declared.Checked.the-variants.{Passed, Refused}
 use Rattle.expression.specs.declared.Outcome.the-variants as outcome
+use Rattle.expression.specs.declared.Naming.the-variants as naming
+use Rattle.expression.specs.declared.Naming.the-variants.{Named, Nameless}
 use Rattle.expression.specs.Limits.{workspaceNeed}
 use Rattle.expression.specs.Commands.{oneOperand, twoOperands, isCommand, operandCount, commandOf, readCommand, readAt}
 use Rattle.expression.specs.Effects.{effect}
 use Rattle.expression.specs.Reading.{noCounts, counted, countFault, behind, readFrom, reading}
 use Rattle.expression.specs.Checks.{Request, firstOf, isFaulty, faultNumber, faultPlace, countsOf, isLimit, overlongTest, limitsTest, crampedTest, clashTest, faultTest, unjoinedTest, absentTest, checks, check, checkSheet, depthOf, depthOutcome}
+use Rattle.expression.specs.Names.{calledBy, calledFrom, called, calledIn, nameOf, bytesNamed}
 
 same : Checked → Checked → Bool
 same (Passed y) (Passed z) = eqb (y .atoms) (z .atoms) && eqb (y .rules) (z .rules) && eqb (y .depth) (z .depth) && eqb (y .deepest) (z .deepest)
@@ -145,6 +148,16 @@ rows =
     ∷ row (0x41 ∷ 10 ∷ 10 ∷ []) 32 32 0 0 (Refused 7 0)
     ∷ row (0x31 ∷ 3 ∷ 3 ∷ []) 32 32 0 0 (Refused 8 0)
     ∷ row (0x41 ∷ 0 ∷ 1 ∷ []) 32 32 0 0 (Refused 11 0)
+    -- 02, Item 1: a name of any bytes, and what stands behind it; bytes beside 51; some of its bytes missing or all, before 11; no operand
+    ∷ row (opening ++ (0x51 ∷ times 16 (0x11 ∷ []))) 32 32 0 0 (passed 1 1 2)
+    ∷ row (opening ++ (0x51 ∷ times 16 (255 ∷ []) ++ (0x41 ∷ 0 ∷ 1 ∷ []))) 32 32 0 0 (passed 1 1 2)
+    ∷ row (opening ++ (0x51 ∷ times 16 (0x21 ∷ []) ++ (0x99 ∷ []))) 32 32 0 0 (Refused 5 22)
+    ∷ row (opening ++ (0x50 ∷ times 16 (0 ∷ []))) 32 32 0 0 (Refused 5 5)
+    ∷ row (opening ++ (0x52 ∷ times 16 (0 ∷ []))) 32 32 0 0 (Refused 5 5)
+    ∷ row (opening ++ (0x51 ∷ times 15 (0 ∷ []))) 32 32 0 0 (Refused 6 5)
+    ∷ row (0x51 ∷ []) 32 32 0 0 (Refused 6 0)
+    ∷ row (0x51 ∷ times 15 (0 ∷ [])) 32 32 0 0 (Refused 6 0)
+    ∷ row (0x51 ∷ times 16 (0 ∷ [])) 32 32 0 0 (Refused 11 0)
     -- the first faulty command, not the lowest number
     ∷ row (0x11 ∷ 0 ∷ 0x11 ∷ 10 ∷ 0x99 ∷ []) 32 32 0 0 (Refused 7 2)
     ∷ row (0x11 ∷ 0 ∷ 0x11 ∷ 1 ∷ []) 32 32 0 0 (Refused 12 4)
@@ -171,3 +184,15 @@ depth-examples : map (depthOutcome labelCount) (listed ∷ (0x11 ∷ 9 ∷ []) �
 unfolding times opening listed eight depthOutcome checkSheet overlongTest faultTest unjoinedTest countsOf faultPlace faultNumber isFaulty firstOf reading readFrom behind
     countFault counted effect noCounts readAt readCommand commandOf operandCount isCommand twoOperands oneOperand
 depth-examples = refl
+
+-- 02, Item 1: two atoms, joined: the second is the newest and is named twice; then a rule, which is named too
+twice : List ℕ
+twice = 0x11 ∷ 0 ∷ 0x11 ∷ 1 ∷ 0x21 ∷ 0x51 ∷ times 16 (0x21 ∷ []) ++ (0x51 ∷ times 16 (0x61 ∷ []) ++ (0x12 ∷ 0 ∷ 0x51 ∷ times 16 (0x62 ∷ []) ++ (0x21 ∷ [])))
+
+-- 1 and 5 to 12 in place of a name
+name-examples : (map (nameOf labelCount twice) (0 ∷ 1 ∷ 2 ∷ []) ≡ Nameless ∷ Named 23 ∷ Nameless ∷ [])
+    × (map (λ s. nameOf labelCount s 0) (listed ∷ (opening ++ (0x51 ∷ [])) ∷ (opening ++ (0x11 ∷ 0 ∷ [])) ∷ times 4097 (0 ∷ []) ∷ []) ≡ Nameless ∷ naming.Refused 6 5 ∷ naming.Refused 12 7 ∷ naming.Refused 1 0 ∷ [])
+    × (bytesNamed twice (nameOf labelCount twice 1) ≡ times 16 (0x61 ∷ []))
+unfolding times opening listed twice nameOf calledIn called calledFrom calledBy checkSheet overlongTest faultTest unjoinedTest countsOf faultPlace faultNumber isFaulty firstOf reading readFrom behind
+    countFault counted effect noCounts readAt readCommand commandOf operandCount isCommand twoOperands oneOperand
+name-examples = (refl, refl, refl)

@@ -1,5 +1,5 @@
 -- Laws of counts: equal field by field, within a bound, as words hold them, and within the limits. Assumes nothing.
-use mathlib.Core.Path.{_≡_, refl}
+use mathlib.Core.Path.{_≡_, refl, ap, _∙_}
 use mathlib.Core.Bool.{Bool, true, false, cond}
 use Prim.Native.Nat.{ℕ, suc, _≤_, _<_, zero-le}
 use native.Mathlib.Omega.{arith}
@@ -106,3 +106,8 @@ one-left Pass t h = h
 pub capped-limited : (n : Counts) → Limited n → capped n ≡ n
 unfolding capped
 capped-limited n h = same-counts _ _ (omega arith) (omega arith) (omega arith) (omega arith)
+
+-- a command that passes the stack by changes no count
+pub pass-counted : (n : Counts) (c : Command) → effect c ≡ Pass → Limited n → counted n c ≡ n
+unfolding counted
+pass-counted n c e h = ap (countedBy n) e ∙ same-counts _ _ (omega arith) (omega arith) refl (omega (arith, h .within))

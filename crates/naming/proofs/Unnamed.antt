@@ -17,7 +17,7 @@ use Rattle.expression.specs.Commands.{readAt}
 use Rattle.expression.specs.Effects.{effect}
 use Rattle.expression.specs.Reading.{noCounts, counted, Placed, whole, behind, readFrom, reading}
 use Rattle.expression.proofs.Commands.{past-end, read-ends}
-use Rattle.expression.proofs.Totals.{same-counts, Limited, none-limited}
+use Rattle.expression.proofs.Totals.{Limited, none-limited, pass-counted}
 use Rattle.expression.proofs.Readings.{from-end, from-step}
 use Rattle.expression.proofs.Remaining.{Remains, Next, remains-next, remains-end}
 use Rattle.semantics.proofs.Readings.{commandsOf}
@@ -36,8 +36,8 @@ without-other c cs o = ap (λ xs. xs ++ withoutNames cs) (other-stays c (c ∷ [
 
 -- a name counts nothing
 name-counts : (n : Counts) (at : ℕ) → Limited n → counted n (Name at) ≡ n
-unfolding counted effect
-name-counts n at l = same-counts _ _ (omega arith) (omega arith) refl (omega (arith, l .within))
+unfolding effect
+name-counts n at l = pass-counted n (Name at) refl l
 
 module _ (K : ℕ) (s : List ℕ) where
   -- ---- the bytes

@@ -16,10 +16,16 @@ use Rattle.stretches.specs.declared.Joined.{Joined}
 use Rattle.stretches.specs.declared.Joined.the-variants.{By, Other}
 
 module _ (K : ℕ) (s : List ℕ) (stop : ℕ) where
-  -- at an offset stands a command c of such an effect, and `next` is the offset after it; a rule's union starts before `stop`
+  -- commands one after the other that pass tables by (02, Item 1: names), each starts before `stop`
+  unfoldable pub Passing : ℕ → ℕ → List Command → Type 0
+  Passing at end [] = at ≡ end
+  Passing at end (c ∷ cs) = (at < stop) × (effect c ≡ Pass) × ((next : ℕ) × (readAt K s at ≡ Got c next) × Passing next end cs)
+
+  -- at an offset stands a command c of such an effect, and `next` is the offset after it; a rule's union starts before `stop`, behind nothing but such
   abbrev pub SpeltAs : Effect → ℕ → Command → ℕ → Type 0
   SpeltAs (Push leaf.Atom) at c next = ⊥
-  SpeltAs (Push leaf.Rule) at c next = (mid : ℕ) × (readAt K s at ≡ Got c mid) × (mid < stop) × (readAt K s mid ≡ Got Union next)
+  SpeltAs (Push leaf.Rule) at c next =
+      (mid : ℕ) × (readAt K s at ≡ Got c mid) × ((cs : List Command) × (end : ℕ) × Passing mid end cs × (end < stop) × (readAt K s end ≡ Got Union next))
   SpeltAs Unite at c next = ⊥
   SpeltAs Change at c next = readAt K s at ≡ Got c next
   SpeltAs Pass at c next = ⊥
@@ -35,6 +41,13 @@ module _ (K : ℕ) (s : List ℕ) (stop : ℕ) where
   unfoldable pub Chain : ℕ → ℕ → List Command → Type 0
   Chain at end [] = at ≡ end
   Chain at end (c ∷ cs) = (at < stop) × ((next : ℕ) × Spelt at c next × Chain next end cs)
+
+-- a rule c before a command of such an effect, which ends at `next`
+abbrev pub closedBy : Command → ℕ → Effect → Joined
+closedBy c next (Push l) = Other
+closedBy c next Unite = By c next
+closedBy c next Change = Other
+closedBy c next Pass = Other
 
 -- what they leave of the counts: a leaf has its union behind it
 abbrev pub joinedBy : Counts → Effect → Counts

@@ -16,7 +16,7 @@ ghost use Rattle.expression.specs.declared.Effect.the-variants.{Push};
 ghost use Rattle.expression.specs.Commands.{readAt};
 ghost use Rattle.expression.specs.Effects.{effect};
 ghost use Rattle.batches.specs.Batches.{commandsOf};
-ghost use Rattle.stretches.specs.Stretches.{SpeltBy, Chain, joinedCounts, chainCounts};
+ghost use Rattle.stretches.specs.Stretches.{SpeltBy, Chain, closedBy, joinedCounts, chainCounts};
 
 // Such a command, and the offset after it; or another one.
 pub enum Joined {
@@ -31,24 +31,39 @@ pub struct Stretch {
     pub counts: Counts,
 }
 
-// A command c that pushes a leaf and ends at `mid`, if it is a rule and a union that starts before `stop` stands there.
+// A rule c before a command of such an effect, which ends at `next`.
+fn closed_by(c: Command, next: usize, e: Effect) -> Joined
+    ensures { λ r. ⌜ r ≡ closedBy c next e ⌝ }
+{
+    match e {
+        Effect::Push(_) => Joined::Other,
+        Effect::Unite => Joined::By(c, next),
+        Effect::Change => Joined::Other,
+        Effect::Pass => Joined::Other,
+    }
+}
+
+// A command c that pushes a leaf and ends at `mid`, if it is a rule and a union that starts before `stop` stands behind it. Names between the two change
+// nothing (02, Item 1).
 fn with_union(s: &[u8], stop: usize, c: Command, l: Leaf, mid: usize) -> Joined
     ensures { λ r. ⌜ ((at : ℕ) → readAt labelCount (now (s .entry)) at ≡ Got c mid → effect c ≡ Push l → SpeltBy labelCount (now (s .entry)) stop at r) ⌝ }
 {
     let Leaf::Rule = l else {
         return Joined::Other;
     };
-    if stop <= mid {
-        return Joined::Other;
+    let mut end = mid;
+    while end < stop {
+        let r = read_next(s, end);
+        let Read::Command(d, next) = r else {
+            return Joined::Other;
+        };
+        let e = effect(d);
+        let Effect::Pass = e else {
+            return closed_by(c, next, e);
+        };
+        end = next;
     }
-    let r = read_next(s, mid);
-    let Read::Command(u, next) = r else {
-        return Joined::Other;
-    };
-    let Command::Union = u else {
-        return Joined::Other;
-    };
-    Joined::By(c, next)
+    Joined::Other
 }
 
 // What stands at an offset.

@@ -18,8 +18,10 @@ use Rattle.expression.specs.Commands.{readAt}
 use Rattle.expression.specs.Effects.{effect}
 use Rattle.expression.specs.Reading.{counted, capped}
 use Rattle.expression.proofs.Commands.{read-ends}
+use Rattle.expression.proofs.Totals.{capped-limited, pass-counted}
 use Rattle.semantics.specs.Expressions.{Operations, act, uniteNewest, changeNewest}
 use Rattle.semantics.specs.AnswerSets.{Assumptions}
+use Rattle.semantics.proofs.Effects.{Does, act-does}
 use Rattle.tables.specs.Triples.{markU}
 use Rattle.tables.specs.Definitions.{pairs, flat}
 use Rattle.tables.specs.Algebras.{tables}
@@ -37,7 +39,7 @@ use Rattle.workspace.specs.Workspace.{Sound, pairsOf}
 use Rattle.operands.specs.Operands.{unitedTable}
 use Rattle.operations.proofs.Dispatch.{rule-acts, union-acts, relabel-acts, connect-acts}
 use Rattle.stretches.specs.declared.Stretch.{Stretch}
-use Rattle.stretches.specs.Stretches.{SpeltAs, Spelt, Chain, joinedCounts, chainCounts}
+use Rattle.stretches.specs.Stretches.{Passing, SpeltAs, Spelt, Chain, joinedCounts, chainCounts}
 use Rattle.ahead.specs.Ahead.{Ahead, stretched}
 use Rattle.ahead.proofs.Keeping.{batched-sound, one-sound, kept-fault}
 use Rattle.walks.proofs.Going.{Leading, Going, lead-on}
@@ -55,6 +57,13 @@ rule-table Plain carry g = refl
 rule-table Pairs carry g = refl
 
 -- commands go forward
+passing-up : (s : List ℕ) (stop at end : ℕ) (cs : List Command) → Passing labelCount s stop at end cs → at ≤ end
+unfolding Passing
+passing-up s stop at end [] h = omega (arith, h)
+passing-up s stop at end (c ∷ cs) h =
+    let r = passing-up s stop (h .2 .0) end cs (h .2 .2) in
+    let u = read-ends labelCount s at c (h .2 .0) (h .2 .1) in omega arith
+
 pub chain-up : (s : List ℕ) (stop at end : ℕ) (cs : List Command) → Chain labelCount s stop at end cs → at ≤ end
 unfolding Chain
 chain-up s stop at end [] h = omega (arith, h)
@@ -64,7 +73,10 @@ chain-up s stop at end (c ∷ cs) h =
   where
     as-up : (e : Effect) (c : Command) (next : ℕ) → SpeltAs labelCount s stop e at c next → at < next
     as-up (Push leaf.Atom) c next h = absurd h
-    as-up (Push leaf.Rule) c next h = let a = read-ends labelCount s at c (h .0) (h .1) in let b = read-ends labelCount s (h .0) Union next (h .3) in omega arith
+    as-up (Push leaf.Rule) c next (mid, r, (cs, end, passing, l, u)) =
+        let a = read-ends labelCount s at c mid r in
+        let b = passing-up s stop mid end cs passing in
+        let d = read-ends labelCount s end Union next u in omega arith
     as-up Unite c next h = absurd h
     as-up Change c next h = read-ends labelCount s at c next h .0
     as-up Pass c next h = absurd h
@@ -89,15 +101,24 @@ module _ (kind : Tables) (carry : Carry) (o : Assumptions) (w p stop : ℕ) (s :
   on {z} {at} {n} {ts} g l c next got us e h =
       subst (L z next (capped (counted n c))) (sym e) (lead-on kind carry o w p stop s g ends l c next got (subst (λ (x : List (List Entry)). pairsFault p (w - 2) (pairsOf (newest x)) ≡ 0) e (kept-fault carry w p wide (newest us) h)) (capped (counted n c)) refl)
 
+  -- commands that pass the tables by
+  pass-on : {z : Counts} {n : Counts} {ts : List (List Entry)} (at end : ℕ) (cs : List Command) → L z at n ts → Passing labelCount s stop at end cs → Sound w p (pairsOf (newest ts)) → L z end n ts
+  unfolding Passing
+  pass-on {z} {n} {ts} at end [] g h k = subst (λ (x : ℕ). L z x n ts) h g
+  pass-on {z} {n} {ts} at end (c ∷ cs) g (l, e, (next, r, h)) k =
+      let passed : act B (n .atoms) c ts ≡ ts = subst (λ (x : Effect). Does x (act B (n .atoms) c)) e (act-does B (n .atoms) c) ts in
+      let same : capped (counted n c) ≡ n = ap capped (pass-counted n c e (g .remains .1)) ∙ capped-limited n (g .remains .1) in
+      pass-on next end cs (subst (λ (m : Counts). L z next m ts) same (on g l c next r ts (sym passed) k)) h k
+
   module _ {z : Counts} {at : ℕ} {n : Counts} {x : List Entry} {us : List (List Entry)} (g : L z at n (x ∷ us)) (l : at < stop) (h : Sound w p (pairsOf x)) (small : All (Small carry) x) where
     one : (c : Command) (next : ℕ) → Spelt labelCount s stop at c next → L z next (joinedCounts n c) (batchedTable carry (c ∷ []) x ∷ us)
     unfolding joinedCounts counted effect changeNewest uniteNewest
     one (Relabel i j) next e = on g l (Relabel i j) next e _ (relabel-acts kind carry o (n .atoms) i j refl (x ∷ us)) (batched-sound carry w p (Relabel i j ∷ []) x h)
     one (Connect k i j) next e = on g l (Connect k i j) next e _ (connect-acts kind carry o (n .atoms) k i j refl (x ∷ us)) (batched-sound carry w p (Connect k i j ∷ []) x h)
-    one (Rule r) next e =
-        let pushed = on g l (Rule r) (e .0) (e .1) ((entryAlgebra labelCount carry .unmet r ∷ []) ∷ x ∷ us) (ap (λ (t : List Entry). t ∷ x ∷ us) (sym (rule-table kind carry r)) ∙ rule-acts kind carry o (n .atoms) r refl (x ∷ us)) (unmet-sound r) in
+    one (Rule r) next (mid, got, (cs, end, passing, before, united)) =
+        let pushed = on g l (Rule r) mid got ((entryAlgebra labelCount carry .unmet r ∷ []) ∷ x ∷ us) (ap (λ (t : List Entry). t ∷ x ∷ us) (sym (rule-table kind carry r)) ∙ rule-acts kind carry o (n .atoms) r refl (x ∷ us)) (unmet-sound r) in
         subst (λ (t : List Entry). L z next (joinedCounts n (Rule r)) (t ∷ us)) (rule-united carry r x small)
-        (on pushed (e .2) Union next (e .3) (unitedTable carry x (entryAlgebra labelCount carry .unmet r ∷ []) ∷ us) (union-acts kind carry o _ refl ((entryAlgebra labelCount carry .unmet r ∷ []) ∷ x ∷ us)) (subst (λ (t : List Entry). Sound w p (pairsOf t)) (sym (rule-united carry r x small)) (batched-sound carry w p (Rule r ∷ []) x h)))
+        (on (pass-on mid end cs pushed passing (unmet-sound r)) before Union next united (unitedTable carry x (entryAlgebra labelCount carry .unmet r ∷ []) ∷ us) (union-acts kind carry o _ refl ((entryAlgebra labelCount carry .unmet r ∷ []) ∷ x ∷ us)) (subst (λ (t : List Entry). Sound w p (pairsOf t)) (sym (rule-united carry r x small)) (batched-sound carry w p (Rule r ∷ []) x h)))
     one (Atom r) next e = absurd e
     one Union next e = absurd e
     one (Name x) next e = absurd e
