@@ -8,11 +8,12 @@ ghost use Rattle.expression.specs.declared.Read.the-variants.{Command as Got, F
 ghost use Rattle.expression.specs.declared.Command.the-variants.{Name};
 ghost use Rattle.expression.specs.Limits.{nameLength};
 ghost use Rattle.expression.specs.Refusals.{unknown, cut, group, same};
-ghost use Rattle.expression.specs.Commands.{isName, operandCount, commandOf, readAt};
+ghost use Rattle.expression.specs.Commands.{isName, operandCount, nameStart, commandOf, readAt};
 use expression::Command;
 use expression::Kind;
 use expression::Read;
 use expression::limits::NAME_LENGTH;
+use expression::limits::START_LIMIT;
 use expression::refusals::CUT;
 use expression::refusals::GROUP;
 use expression::refusals::SAME;
@@ -47,7 +48,7 @@ pub fn read_at(s: &[u8], at: usize) -> Read
 // A byte without operands at an offset of so many bytes: a name, or tests 5 and 6. What a name's bytes are is not looked at (02, Item 1).
 fn read_name(b: u8, at: usize, len: usize) -> Read
     requires { ⌜ at < len ⌝ }
-    ensures { λ r. ⌜ r ≡ cond (isName b) (cond (ltb (len - at) (1 + nameLength)) (Fault cut) (Got (Name (at + 1)) (at + (1 + nameLength)))) (Fault unknown) ⌝ }
+    ensures { λ r. ⌜ r ≡ cond (isName b) (cond (ltb (len - at) (1 + nameLength)) (Fault cut) (Got (Name (nameStart at)) (at + (1 + nameLength)))) (Fault unknown) ⌝ }
 {
     if b != 0x51 {
         return Read::Fault(UNKNOWN);
@@ -55,7 +56,16 @@ fn read_name(b: u8, at: usize, len: usize) -> Read
     if len - at <= NAME_LENGTH {
         return Read::Fault(CUT);
     }
-    Read::Command(Command::Name(at + 1), at + (1 + NAME_LENGTH))
+    Read::Command(Command::Name(name_start(at)), at + (1 + NAME_LENGTH))
+}
+
+fn name_start(at: usize) -> u32
+    ensures { λ r. ⌜ r ≡ nameStart at ⌝ }
+{
+    if at < START_LIMIT {
+        return (at + 1) as u32;
+    }
+    START_LIMIT as u32
 }
 
 // An atom or a rule of label g: test 7.

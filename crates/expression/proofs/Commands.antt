@@ -13,9 +13,9 @@ use Rattle.expression.specs.declared.Kind.the-variants.{Head, Positive, 
 use Rattle.expression.specs.declared.Command.{Command}
 use Rattle.expression.specs.declared.Command.the-variants.{Atom, Rule, Union, Relabel, Connect, Name}
 use Rattle.expression.specs.declared.Read.the-variants.{Command as Got, Fault}
-use Rattle.expression.specs.Limits.{nameLength}
+use Rattle.expression.specs.Limits.{byteLimit, nameLength}
 use Rattle.expression.specs.Refusals.{unknown, cut, group, same}
-use Rattle.expression.specs.Commands.{oneOperand, twoOperands, isName, isCommand, operandCount, tailLength, commandOf, readCommand, readAt}
+use Rattle.expression.specs.Commands.{oneOperand, twoOperands, isName, isCommand, operandCount, tailLength, nameStart, commandOf, readCommand, readAt}
 
 -- ---- how many operands a byte has
 
@@ -111,13 +111,13 @@ module _ (K at n b x y : ℕ) where
 
   -- no union and no operands: a name, 5 or 6
   pub name-read : (b ≡ 0x21 → ⊥) → operandCount b ≡ 0
-      → readCommand K at n b x y ≡ cond (isName b) (cond (ltb n (1 + nameLength)) (Fault cut) (Got (Name (at + 1)) (at + (1 + nameLength)))) (Fault unknown)
+      → readCommand K at n b x y ≡ cond (isName b) (cond (ltb n (1 + nameLength)) (Fault cut) (Got (Name (nameStart at)) (at + (1 + nameLength)))) (Fault unknown)
   unfolding readCommand isCommand
   name-read e h = simp (ne-eqb b 0x21 e, none-is b h .0, none-is b h .1, step (isName b))
     where
       step : (p : Bool)
-          → cond (not (p || false || false)) (Fault unknown) (cond (ltb n (1 + cond p nameLength (operandCount b))) (Fault cut) (Got (cond p (Name (at + 1)) (commandOf b x y)) (at + (1 + cond p nameLength (operandCount b)))))
-          ≡ cond p (cond (ltb n (1 + nameLength)) (Fault cut) (Got (Name (at + 1)) (at + (1 + nameLength)))) (Fault unknown)
+          → cond (not (p || false || false)) (Fault unknown) (cond (ltb n (1 + cond p nameLength (operandCount b))) (Fault cut) (Got (cond p (Name (nameStart at)) (commandOf b x y)) (at + (1 + cond p nameLength (operandCount b)))))
+          ≡ cond p (cond (ltb n (1 + nameLength)) (Fault cut) (Got (Name (nameStart at)) (at + (1 + nameLength)))) (Fault unknown)
       step true = refl
       step false = refl
 
@@ -154,7 +154,7 @@ read-ends K s at c next h =
     y = getD s (at + 2) 0
 
     step : (p q r t : Bool) → ltb (length s - at) (1 + tailLength b) ≡ q
-        → cond (not p) (Fault unknown) (cond q (Fault cut) (cond r (Fault group) (cond t (Fault same) (Got (cond (isName b) (Name (at + 1)) (commandOf b x y)) (at + (1 + tailLength b)))))) ≡ Got c next
+        → cond (not p) (Fault unknown) (cond q (Fault cut) (cond r (Fault group) (cond t (Fault same) (Got (cond (isName b) (Name (nameStart at)) (commandOf b x y)) (at + (1 + tailLength b)))))) ≡ Got c next
         → (at < next) × (next ≤ length s)
     step true false false false e h = let k : at + (1 + tailLength b) ≡ next = cc in omega (arith, ltb-false)
     step true false false true e h = let z : _≡_ {A = ℕ} 0 1 = cc in absurd (omega arith)
@@ -162,7 +162,7 @@ read-ends K s at c next h =
     step true true r t e h = let z : _≡_ {A = ℕ} 0 1 = cc in absurd (omega arith)
     step false q r t e h = let z : _≡_ {A = ℕ} 0 1 = cc in absurd (omega arith)
 
--- ---- where a name ends
+-- ---- where a name stands
 
 -- a byte with operands makes no name
 made-no-name : (b x y n : ℕ) → commandOf b x y ≡ Name n → ⊥
@@ -179,11 +179,11 @@ made-no-name b x y n h = step (eqb b 0x11) (eqb b 0x12) (eqb b 0x21) (eqb b 0x31
     step false false false false false true e = let z : _≡_ {A = ℕ} 0 1 = cc in omega arith
     step false false false false false false e = let z : _≡_ {A = ℕ} 0 1 = cc in omega arith
 
--- all its bytes are there
-pub name-ends : (K : ℕ) (s : List ℕ) (at n next : ℕ) → readAt K s at ≡ Got (Name n) next → n + nameLength ≤ length s
+-- where it begins, and the command behind it
+pub name-is : (K : ℕ) (s : List ℕ) (at n next : ℕ) → readAt K s at ≡ Got (Name n) next → (n ≡ nameStart at) × (next ≡ at + (1 + nameLength))
 unfolding readAt readCommand
-name-ends K s at n next h =
-    step (isCommand b) (ltb (length s - at) (1 + tailLength b)) ((oneOperand b || twoOperands b) && leb K x || twoOperands b && leb K y) (twoOperands b && eqb x y) (isName b) (operandCount b) refl h
+name-is K s at n next h =
+    step (isCommand b) (ltb (length s - at) (1 + tailLength b)) ((oneOperand b || twoOperands b) && leb K x || twoOperands b && leb K y) (twoOperands b && eqb x y) (isName b) (operandCount b) h
   where
     b : ℕ
     b = getD s at 0
@@ -194,12 +194,21 @@ name-ends K s at n next h =
     y : ℕ
     y = getD s (at + 2) 0
 
-    step : (p q r t a : Bool) (m : ℕ) → ltb (length s - at) (1 + cond a nameLength m) ≡ q
-        → cond (not p) (Fault unknown) (cond q (Fault cut) (cond r (Fault group) (cond t (Fault same) (Got (cond a (Name (at + 1)) (commandOf b x y)) (at + (1 + cond a nameLength m)))))) ≡ Got (Name n) next
-        → n + nameLength ≤ length s
-    step true false false false true m e h = let k : at + 1 ≡ n = cc in omega (arith, ltb-false (length s - at) 17 e)
-    step true false false false false m e h = absurd (made-no-name b x y n cc)
-    step true false false true a m e h = let z : _≡_ {A = ℕ} 0 1 = cc in absurd (omega arith)
-    step true false true t a m e h = let z : _≡_ {A = ℕ} 0 1 = cc in absurd (omega arith)
-    step true true r t a m e h = let z : _≡_ {A = ℕ} 0 1 = cc in absurd (omega arith)
-    step false q r t a m e h = let z : _≡_ {A = ℕ} 0 1 = cc in absurd (omega arith)
+    step : (p q r t a : Bool) (m : ℕ)
+        → cond (not p) (Fault unknown) (cond q (Fault cut) (cond r (Fault group) (cond t (Fault same) (Got (cond a (Name (nameStart at)) (commandOf b x y)) (at + (1 + cond a nameLength m)))))) ≡ Got (Name n) next
+        → (n ≡ nameStart at) × (next ≡ at + (1 + nameLength))
+    step true false false false true m h = (cc, cc)
+    step true false false false false m h = absurd (made-no-name b x y n cc)
+    step true false false true a m h = let z : _≡_ {A = ℕ} 0 1 = cc in absurd (omega arith)
+    step true false true t a m h = let z : _≡_ {A = ℕ} 0 1 = cc in absurd (omega arith)
+    step true true r t a m h = let z : _≡_ {A = ℕ} 0 1 = cc in absurd (omega arith)
+    step false q r t a m h = let z : _≡_ {A = ℕ} 0 1 = cc in absurd (omega arith)
+
+module _ (K : ℕ) (s : List ℕ) (at n next : ℕ) (e : readAt K s at ≡ Got (Name n) next) where
+  -- all its bytes are there
+  pub name-ends : n + nameLength ≤ length s
+  name-ends = omega (arith, name-is K s at n next e, read-ends K s at (Name n) next e)
+
+  -- directly behind the command byte, if 1 does not refuse
+  pub name-behind : length s ≤ byteLimit → n ≡ at + 1
+  name-behind l = omega (arith, name-is K s at n next e, read-ends K s at (Name n) next e)

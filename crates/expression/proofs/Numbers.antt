@@ -19,7 +19,7 @@ use Rattle.expression.specs.declared.Counts.{Counts}
 use Rattle.expression.specs.declared.Checked.the-variants.{Refused}
 use Rattle.expression.specs.Limits.{atomLimit, ruleLimit, depthLimit}
 use Rattle.expression.specs.Refusals.{unknown, cut, group, same, crowded, deep, bare, absent}
-use Rattle.expression.specs.Commands.{oneOperand, twoOperands, isName, isCommand, tailLength, commandOf, readCommand, readAt}
+use Rattle.expression.specs.Commands.{oneOperand, twoOperands, isName, isCommand, tailLength, nameStart, commandOf, readCommand, readAt}
 use Rattle.expression.specs.Effects.{effect}
 use Rattle.expression.specs.Reading.{noCounts, counted, faultBy, countFault, Placed, Reading, faulty, whole, behind, readFrom, reading}
 use Rattle.expression.specs.Checks.{Request, Test, firstOf, isFaulty, faultNumber, overlongTest, limitsTest, crampedTest, clashTest, faultTest, unjoinedTest, absentTest, checks, check}
@@ -36,7 +36,7 @@ read-number K s at {f} h =
     let b = getD s at 0 in
     let x = getD s (at + 1) 0 in
     let y = getD s (at + 2) 0 in
-    step (not (isCommand b)) (ltb (length s - at) (1 + tailLength b)) ((oneOperand b || twoOperands b) && leb K x || twoOperands b && leb K y) (twoOperands b && eqb x y) (cond (isName b) (Name (at + 1)) (commandOf b x y)) (at + (1 + tailLength b)) h
+    step (not (isCommand b)) (ltb (length s - at) (1 + tailLength b)) ((oneOperand b || twoOperands b) && leb K x || twoOperands b && leb K y) (twoOperands b && eqb x y) (cond (isName b) (Name (nameStart at)) (commandOf b x y)) (at + (1 + tailLength b)) h
   where
     step : (p q r t : Bool) (c : Command) (next : ℕ) → cond p (Fault unknown) (cond q (Fault cut) (cond r (Fault group) (cond t (Fault same) (Got c next)))) ≡ Fault f → Among unknown same f
     step true q r t c next h = let e : unknown ≡ f = cc in (omega arith, omega arith)

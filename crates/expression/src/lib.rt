@@ -10,14 +10,14 @@ pub enum Kind {
     Negative,
 }
 
-// A name is where its bytes begin (02, Item 1).
+// A name is where its bytes begin (02, Item 1), in a word of 32 bits, as labels are: an offset of 64 would make every command read longer and slower.
 pub enum Command {
     Atom(u32),
     Rule(u32),
     Union,
     Relabel(u32, u32),
     Connect(Kind, u32, u32),
-    Name(usize),
+    Name(u32),
 }
 
 // A leaf of an expression.

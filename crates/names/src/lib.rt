@@ -48,7 +48,7 @@ fn called_by(newest: bool, name: Naming, c: Command) -> Naming
     match c {
         Command::Name(at) => {
             if newest {
-                return Naming::Named(at);
+                return Naming::Named(at as usize);
             }
             name
         }

@@ -15,7 +15,7 @@ use Rattle.expression.specs.declared.Command.the-variants.{Atom, Rule, Union, R
 use Rattle.expression.specs.declared.Read.the-variants.{Command as Got, Fault}
 use Rattle.expression.specs.Limits.{nameLength}
 use Rattle.expression.specs.Refusals.{unknown, cut, group, same}
-use Rattle.expression.specs.Commands.{oneOperand, twoOperands, isName, operandCount, commandOf, readCommand, readAt}
+use Rattle.expression.specs.Commands.{oneOperand, twoOperands, isName, operandCount, nameStart, commandOf, readCommand, readAt}
 use Rattle.expression.proofs.Commands.{union-read, name-read, cut-read, leaf-read, pair-read, read-ends}
 use Rattle.naming.specs.Unnamed.{unlessName}
 
@@ -75,10 +75,10 @@ module _ (K b at n x y at′ n′ x′ y′ : ℕ) (c : Command) (next : ℕ) (r
   none-moved : (b ≡ 0x21 → ⊥) → operandCount b ≡ 0 → Same
   none-moved e h = step (isName b) (ltb n (1 + nameLength)) (sym (name-read K at n b x y e h) ∙ read)
     where
-      step : (p q : Bool) → cond p (cond q (Fault cut) (Got (Name (at + 1)) (at + (1 + nameLength)))) (Fault unknown) ≡ Got c next → Same
+      step : (p q : Bool) → cond p (cond q (Fault cut) (Got (Name (nameStart at)) (at + (1 + nameLength)))) (Fault unknown) ≡ Got c next → Same
       step false q r = let z : _≡_ {A = ℕ} 0 1 = cc in absurd (omega arith)
       step true true r = let z : _≡_ {A = ℕ} 0 1 = cc in absurd (omega arith)
-      step true false r = let e : c ≡ Name (at + 1) = cc in absurd (subst Other e o)
+      step true false r = let e : c ≡ Name (nameStart at) = cc in absurd (subst Other e o)
 
   leaf-moved : operandCount b ≡ 1 → Same
   leaf-moved h = step (ltb 1 n) refl

@@ -17,7 +17,7 @@ use Rattle.expression.specs.declared.Read.the-variants.{Command as Got, Fault}
 use Rattle.expression.specs.declared.Counts.{Counts}
 use Rattle.expression.specs.Limits.{atomLimit}
 use Rattle.expression.specs.Refusals.{unknown, cut, group, same}
-use Rattle.expression.specs.Commands.{oneOperand, twoOperands, isName, isCommand, tailLength, commandOf, readCommand, readAt, Suits}
+use Rattle.expression.specs.Commands.{oneOperand, twoOperands, isName, isCommand, tailLength, nameStart, commandOf, readCommand, readAt, Suits}
 use Rattle.expression.specs.Effects.{effect, operandsBy}
 use Rattle.expression.specs.Reading.{depthAfter, counted, countFault, Placed, Reading, faulty, whole, noCounts, behind, readFrom, reading}
 use Rattle.expression.proofs.Totals.{Limited, none-limited, counted-limited, passes-operands}
@@ -60,8 +60,8 @@ command-read K at n b x y c next h =
     step (isCommand b) (ltb n (1 + tailLength b)) ((oneOperand b || twoOperands b) && leb K x || twoOperands b && leb K y) (twoOperands b && eqb x y) refl refl h
   where
     step : (p q r t : Bool) → isCommand b ≡ p → ((oneOperand b || twoOperands b) && leb K x || twoOperands b && leb K y) ≡ r
-        → cond (not p) (Fault unknown) (cond q (Fault cut) (cond r (Fault group) (cond t (Fault same) (Got (cond (isName b) (Name (at + 1)) (commandOf b x y)) (at + (1 + tailLength b)))))) ≡ Got c next → Suits K c
-    step true false false false e f h = let k : cond (isName b) (Name (at + 1)) (commandOf b x y) ≡ c = cc in subst (Suits K) k (command-suits K b x y f (at + 1) e)
+        → cond (not p) (Fault unknown) (cond q (Fault cut) (cond r (Fault group) (cond t (Fault same) (Got (cond (isName b) (Name (nameStart at)) (commandOf b x y)) (at + (1 + tailLength b)))))) ≡ Got c next → Suits K c
+    step true false false false e f h = let k : cond (isName b) (Name (nameStart at)) (commandOf b x y) ≡ c = cc in subst (Suits K) k (command-suits K b x y f (nameStart at) e)
     step true false false true e f h = let z : _≡_ {A = ℕ} 0 1 = cc in absurd (omega arith)
     step true false true t e f h = let z : _≡_ {A = ℕ} 0 1 = cc in absurd (omega arith)
     step true true r t e f h = let z : _≡_ {A = ℕ} 0 1 = cc in absurd (omega arith)

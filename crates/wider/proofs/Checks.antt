@@ -17,7 +17,7 @@ use Rattle.expression.specs.declared.Counts.{Counts}
 use Rattle.expression.specs.declared.Checked.{Checked}
 use Rattle.expression.specs.declared.Checked.the-variants.{Passed, Refused}
 use Rattle.expression.specs.Refusals.{unknown, cut, group, same}
-use Rattle.expression.specs.Commands.{oneOperand, twoOperands, isName, isCommand, tailLength, commandOf, readCommand, readAt, refusalOf}
+use Rattle.expression.specs.Commands.{oneOperand, twoOperands, isName, isCommand, tailLength, nameStart, commandOf, readCommand, readAt, refusalOf}
 use Rattle.expression.specs.Reading.{noCounts, counted, countFault, Placed, Reading, faulty, whole, behind, readFrom, reading}
 use Rattle.expression.specs.Checks.{Request, Test, firstOf, isFaulty, faultNumber, faultPlace, countsOf, overlongTest, limitsTest, crampedTest, clashTest, faultTest, unjoinedTest, absentTest, checks, check, checkSheet, depthTold, depthOutcome}
 use Rattle.expression.proofs.Readings.{from-end, from-fault, from-count-fault, from-step}
@@ -48,7 +48,7 @@ module _ (K L : ℕ) (wide : K ≤ L) where
   unfolding readAt readCommand
   read-wider s at =
       step (not (isCommand b)) (ltb (length s - at) (1 + tailLength b)) (over K) (over L) less
-      (cond (twoOperands b && eqb x y) (Fault same) (Got (cond (isName b) (Name (at + 1)) (commandOf b x y)) (at + (1 + tailLength b))))
+      (cond (twoOperands b && eqb x y) (Fault same) (Got (cond (isName b) (Name (nameStart at)) (commandOf b x y)) (at + (1 + tailLength b))))
     where
       b : ℕ
       b = getD s at 0

@@ -7,6 +7,9 @@ use Rattle.names.proofs.called_by.Tie as tie
 enum-known-c : tie.Need-enum-known-c
 enum-known-c c = search needs
 
+cast-t7 : tie.Need-cast-t7
+cast-t7 c = search needs
+
 returns : tie.Need-returns
 unfolding calledBy
 returns c = rw (c .before .before .c .given .1, c .if1 .taken)
@@ -55,6 +58,7 @@ called-by-spec =
     tie.close
     (tie.spec
     enum-known-c
+    cast-t7
     returns
     enum-told
     enum-told-2
