@@ -1,19 +1,15 @@
 // One command from bytes (01, "The sheet").
 ghost use mathlib.Core.Path.{_≡_};
 ghost use mathlib.Core.Bool.{cond, _||_};
-ghost use Prim.Native.Nat.{_+_, _-_, _<_};
-ghost use lib.Dec.{eqb, ltb, leb};
+ghost use lib.Dec.{eqb, leb};
 ghost use Rattle.labels.specs.Labels.{labelCount};
 ghost use Rattle.expression.specs.declared.Read.the-variants.{Command as Got, Fault};
-ghost use Rattle.expression.specs.declared.Command.the-variants.{Name};
-ghost use Rattle.expression.specs.Limits.{nameLength};
-ghost use Rattle.expression.specs.Refusals.{unknown, cut, group, same};
-ghost use Rattle.expression.specs.Commands.{isName, operandCount, nameStart, commandOf, readAt};
+ghost use Rattle.expression.specs.Refusals.{group, same};
+ghost use Rattle.expression.specs.Commands.{tailLength, commandOf, readAt};
 use expression::Command;
 use expression::Kind;
 use expression::Read;
 use expression::limits::NAME_LENGTH;
-use expression::limits::START_LIMIT;
 use expression::refusals::CUT;
 use expression::refusals::GROUP;
 use expression::refusals::SAME;
@@ -31,41 +27,24 @@ pub fn read_at(s: &[u8], at: usize) -> Read
     if b == 0x21 {
         return Read::Command(Command::Union, at + 1);
     }
-    let n = operand_count(b);
+    let n = tail_length(b);
     if n == 0 {
-        return read_name(b, at, s.len());
+        return Read::Fault(UNKNOWN);
     }
     if s.len() - at <= n {
         return Read::Fault(CUT);
+    }
+    if n == NAME_LENGTH {
+        return Read::Command(
+            Command::Name(((at + 1) % 0x100000000) as u32),
+            at + (1 + NAME_LENGTH),
+        );
     }
     let i = s[at + 1];
     if n == 1 {
         return read_leaf(b, i, at + 2);
     }
     read_pair(b, i, s[at + 2], at + 3)
-}
-
-// A byte without operands at an offset of so many bytes: a name, or tests 5 and 6. What a name's bytes are is not looked at (02, Item 1).
-fn read_name(b: u8, at: usize, len: usize) -> Read
-    requires { ⌜ at < len ⌝ }
-    ensures { λ r. ⌜ r ≡ cond (isName b) (cond (ltb (len - at) (1 + nameLength)) (Fault cut) (Got (Name (nameStart at)) (at + (1 + nameLength)))) (Fault unknown) ⌝ }
-{
-    if b != 0x51 {
-        return Read::Fault(UNKNOWN);
-    }
-    if len - at <= NAME_LENGTH {
-        return Read::Fault(CUT);
-    }
-    Read::Command(Command::Name(name_start(at)), at + (1 + NAME_LENGTH))
-}
-
-fn name_start(at: usize) -> u32
-    ensures { λ r. ⌜ r ≡ nameStart at ⌝ }
-{
-    if at < START_LIMIT {
-        return (at + 1) as u32;
-    }
-    START_LIMIT as u32
 }
 
 // An atom or a rule of label g: test 7.
@@ -94,13 +73,14 @@ fn read_pair(b: u8, i: u8, j: u8, next: usize) -> Read
     Read::Command(command_of(b, i, j), next)
 }
 
-// How many operands a command byte has; 0 for one that has none, and for any other byte.
-fn operand_count(b: u8) -> usize
-    ensures { λ r. ⌜ r ≡ operandCount b ⌝ }
+// How many bytes stand behind a command byte: operands, or a name, which may be any bytes (02, Item 1). 0 for a union, and for any other byte.
+fn tail_length(b: u8) -> usize
+    ensures { λ r. ⌜ r ≡ tailLength b ⌝ }
 {
     match b {
         0x11 | 0x12 => 1,
         0x31 | 0x41 | 0x42 | 0x43 => 2,
+        0x51 => NAME_LENGTH,
         _ => 0,
     }
 }

@@ -1,7 +1,7 @@
 -- One command from bytes (01, "The sheet"; 02, Item 1: 51), over K labels. Assumes nothing.
 use mathlib.Core.Bool.{Bool, cond, not, _&&_, _||_}
 use mathlib.Core.List.{List}
-use Prim.Native.Nat.{ℕ, _+_, _-_, _<_, min}
+use Prim.Native.Nat.{ℕ, _+_, _-_, _%_, _<_}
 use lib.Dec.{eqb, ltb, leb}
 use lib.ListN.{length, getD}
 use Rattle.expression.specs.declared.Kind.the-variants.{Head, Positive, Negative}
@@ -9,7 +9,7 @@ use Rattle.expression.specs.declared.Command.{Command}
 use Rattle.expression.specs.declared.Command.the-variants.{Atom, Rule, Union, Relabel, Connect, Name}
 use Rattle.expression.specs.declared.Read.{Read}
 use Rattle.expression.specs.declared.Read.the-variants.{Command as Got, Fault}
-use Rattle.expression.specs.Limits.{nameLength, startLimit}
+use Rattle.expression.specs.Limits.{nameLength}
 use Rattle.expression.specs.Refusals.{unknown, cut, group, same}
 
 -- 11 g and 12 g; 31, 41, 42, 43 then i j
@@ -44,9 +44,9 @@ commandOf b x y =
     (cond (eqb b 0x42) (Connect Positive x y)
     (Connect Negative x y))))))
 
--- where the bytes of a name begin, behind its command byte; an expression that is too long for a word of 32 bits is refused by 1
+-- where the bytes of a name begin, behind its command byte, in a word of 32 bits: an expression too long for that is refused by 1
 abbrev pub nameStart : ℕ → ℕ
-nameStart at = min (at + 1) startLimit
+nameStart at = (at + 1) % 0x100000000
 
 -- with command byte b, n bytes from it to the end, and the operands x and y: tests 5 to 8 in order, else the command and the offset after it. The
 -- bytes of a name are no operands: they may be anything

@@ -9,10 +9,6 @@ byteLimit = 4096
 abbrev pub nameLength : ℕ
 nameLength = 16
 
--- the greatest offset that a word of 32 bits holds
-abbrev pub startLimit : ℕ
-startLimit = 0xffffffff
-
 -- copies
 abbrev pub atomLimit : ℕ
 atomLimit = 63

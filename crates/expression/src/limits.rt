@@ -10,9 +10,6 @@ pub const RULE_LIMIT: u64 = 256;
 // Bytes of a name (02, Item 1).
 pub const NAME_LENGTH: usize = 16;
 
-// The greatest offset that a name keeps.
-pub const START_LIMIT: usize = 0xffffffff;
-
 // Operands on the stack at a time.
 pub const DEPTH_LIMIT: u64 = 8;
 

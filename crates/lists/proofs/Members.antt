@@ -145,6 +145,11 @@ pub all-map : {A B : Type 0} (P : A → Type 0) (Q : B → Type 0) (f : A → B)
 all-map P Q f g [] h = tt
 all-map P Q f g (x ∷ xs) h = (g x (h .0), all-map P Q f g xs (h .1))
 
+pub map-take : {A B : Type 0} (f : A → B) (k : ℕ) (xs : List A) → map f (take k xs) ≡ take k (map f xs)
+map-take f zero xs = refl
+map-take f (suc k) [] = refl
+map-take {A} {B} f (suc k) (x ∷ xs) = ap (λ (t : List B). f x ∷ t) (map-take f k xs)
+
 pub map-drop : {A B : Type 0} (f : A → B) (k : ℕ) (xs : List A) → map f (drop k xs) ≡ drop k (map f xs)
 map-drop f zero xs = refl
 map-drop f (suc k) [] = refl

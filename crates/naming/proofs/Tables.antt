@@ -7,6 +7,7 @@ use Prim.Native.Nat.{ℕ, zero, suc, _+_}
 use native.Mathlib.Nat.{add-zero}
 use lib.ListN.{length, take, drop, take-append-drop}
 use lib.Seq.{take-append-seam}
+use Rattle.lists.proofs.Members.{map-take}
 use Rattle.expression.specs.declared.Command.{Command}
 use Rattle.expression.specs.declared.Command.the-variants.{Name}
 use Rattle.expression.specs.declared.Counts.{Counts}
@@ -48,11 +49,6 @@ without-append : (cs ds : List Command) → withoutNames (cs ++ ds) ≡ withoutN
 unfolding withoutNames
 without-append [] ds = refl
 without-append (c ∷ cs) ds = ap (λ xs. unlessName c (c ∷ []) ++ xs) (without-append cs ds) ∙ sym (append-assoc (unlessName c (c ∷ [])) (withoutNames cs) (withoutNames ds))
-
-map-take : {A B : Type 0} (f : A → B) (k : ℕ) (xs : List A) → map f (take k xs) ≡ take k (map f xs)
-map-take f zero xs = refl
-map-take f (suc k) [] = refl
-map-take {A} {B} f (suc k) (x ∷ xs) = ap (λ (t : List B). f x ∷ t) (map-take f k xs)
 
 -- the first k commands without their names are the first commands without names, as many as there are
 take-unnamed : (k : ℕ) (cs : List Placed) → take (length (withoutNames (commandsOf (take k cs)))) (withoutNames (commandsOf cs)) ≡ withoutNames (commandsOf (take k cs))

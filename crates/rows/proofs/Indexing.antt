@@ -10,7 +10,7 @@ use borrow.Rule.Slice.PartMut.{putMid, midOf, post-is}
 use Rattle.lists.specs.declared.Order.the-variants.{Same}
 use Rattle.lists.specs.Lists.{All}
 use Rattle.lists.specs.Sorted.{compareLists, second, rank, Rising}
-use Rattle.lists.proofs.Members.{all-append, all-get, all-take, all-drop, all-map, map-drop}
+use Rattle.lists.proofs.Members.{all-append, all-get, all-take, all-drop, all-map, map-take, map-drop}
 use Rattle.lists.proofs.Comparisons.{lists-lawful}
 use Rattle.lists.proofs.Canon.{rising-insert}
 use Rattle.lists.proofs.Ranks.{rank-le, insert-absent}
@@ -24,11 +24,6 @@ use Rattle.rows.proofs.Single.{pair-row, row-readable}
 use Rattle.rows.proofs.Tables.{row-within, length-table, slot-at, slot-row, table-put, rows-all}
 
 -- ---- maps over lists
-
-map-take : {A B : Type 0} (f : A → B) (k : ℕ) (xs : List A) → map f (take k xs) ≡ take k (map f xs)
-map-take f zero xs = refl
-map-take f (suc k) [] = refl
-map-take {A} {B} f (suc k) (x ∷ xs) = ap (λ (t : List B). f x ∷ t) (map-take f k xs)
 
 map-all : {A B : Type 0} (f g : A → B) (P : A → Type 0) → ((x : A) → P x → f x ≡ g x) → (xs : List A) → All P xs → map f xs ≡ map g xs
 map-all f g P h [] a = refl

@@ -3,7 +3,7 @@ use mathlib.Core.Path.{sym, _∙_}
 use native.Mathlib.Omega.{arith}
 use borrow.Author.Needs.{needs}
 use Rattle.expression.specs.Commands.{readAt}
-use Rattle.expression.proofs.Commands.{past-end, union-read, name-read, cut-read, leaf-read, pair-read}
+use Rattle.expression.proofs.Commands.{past-end, union-read, unknown-read, cut-read, name-read, leaf-read, pair-read}
 use Rattle.commands.proofs.reading.read_at.Statement.{statement}
 use Rattle.commands.proofs.reading.read_at.Tie as tie
 
@@ -20,15 +20,12 @@ returns-2 : tie.Need-returns-2
 unfolding readAt
 returns-2 c = sym (union-read _ _ _ _ _ _ (c .if2 .taken) (omega arith))
 
-operand-count-requires : tie.Need-operand-count-requires
-operand-count-requires c κs = search needs
-
-read-name-requires : tie.Need-read-name-requires
-read-name-requires c κs = search needs
+tail-length-requires : tie.Need-tail-length-requires
+tail-length-requires c κs = search needs
 
 returns-3 : tie.Need-returns-3
 unfolding readAt
-returns-3 c = c .read-name .ensures ∙ sym (name-read _ _ _ _ _ _ (c .before .before .before .if2 .left) (omega arith))
+returns-3 c = sym (unknown-read _ _ _ _ _ _ (c .before .before .if2 .left) (omega arith))
 
 sub-if4 : tie.Need-sub-if4
 sub-if4 c = search needs
@@ -36,6 +33,22 @@ sub-if4 c = search needs
 returns-4 : tie.Need-returns-4
 unfolding readAt
 returns-4 c = sym (cut-read _ _ _ _ _ _ (omega arith) (omega arith))
+
+add-t13 : tie.Need-add-t13
+add-t13 c = search needs
+
+cast-t15 : tie.Need-cast-t15
+cast-t15 c = search needs
+
+add-t17 : tie.Need-add-t17
+add-t17 c = search needs
+
+add-t18 : tie.Need-add-t18
+add-t18 c = search needs
+
+returns-5 : tie.Need-returns-5
+unfolding readAt
+returns-5 c = sym (name-read _ _ _ _ _ _ (omega arith) (omega arith))
 
 add-i : tie.Need-add-i
 add-i c = search needs
@@ -49,9 +62,9 @@ add-read-leaf c = search needs
 read-leaf-requires : tie.Need-read-leaf-requires
 read-leaf-requires c κs = search needs
 
-returns-5 : tie.Need-returns-5
+returns-6 : tie.Need-returns-6
 unfolding readAt
-returns-5 c = c .read-leaf .ensures ∙ sym (leaf-read _ _ _ _ _ _ (omega arith) (omega arith))
+returns-6 c = c .read-leaf .ensures ∙ sym (leaf-read _ _ _ _ _ _ (omega arith) (omega arith))
 
 add-read-pair : tie.Need-add-read-pair
 add-read-pair c = search needs
@@ -65,9 +78,9 @@ add-read-pair-2 c = search needs
 read-pair-requires : tie.Need-read-pair-requires
 read-pair-requires c κs = search needs
 
-returns-6 : tie.Need-returns-6
+returns-7 : tie.Need-returns-7
 unfolding readAt
-returns-6 c = c .read-pair .ensures ∙ sym (pair-read _ _ _ _ _ _ (omega arith) (omega arith))
+returns-7 c = c .read-pair .ensures ∙ sym (pair-read _ _ _ _ _ _ (omega arith) (λ e. omega arith) (omega arith))
 
 pub read-at-spec : {M : Type 1} → statement M
 read-at-spec =
@@ -77,18 +90,22 @@ read-at-spec =
     shared-slice-read-b
     add-t11
     returns-2
-    operand-count-requires
-    read-name-requires
+    tail-length-requires
     returns-3
     sub-if4
     returns-4
+    add-t13
+    cast-t15
+    add-t17
+    add-t18
+    returns-5
     add-i
     shared-slice-read-i
     add-read-leaf
     read-leaf-requires
-    returns-5
+    returns-6
     add-read-pair
     shared-slice-read-read-pair
     add-read-pair-2
     read-pair-requires
-    returns-6)
+    returns-7)
