@@ -1,11 +1,14 @@
 // One command from bytes (01, "The sheet").
 ghost use mathlib.Core.Path.{_≡_};
-ghost use mathlib.Core.Bool.{cond, _||_};
-ghost use lib.Dec.{eqb, leb};
+ghost use mathlib.Core.Bool.{cond};
+ghost use Prim.Native.Nat.{_+_, _-_, _<_};
+ghost use lib.Dec.{eqb, ltb, leb};
 ghost use Rattle.labels.specs.Labels.{labelCount};
 ghost use Rattle.expression.specs.declared.Read.the-variants.{Command as Got, Fault};
-ghost use Rattle.expression.specs.Refusals.{group, same};
-ghost use Rattle.expression.specs.Commands.{tailLength, commandOf, readAt};
+ghost use Rattle.expression.specs.declared.Command.the-variants.{Name};
+ghost use Rattle.expression.specs.Limits.{nameLength};
+ghost use Rattle.expression.specs.Refusals.{cut, group, same};
+ghost use Rattle.expression.specs.Commands.{operandCount, nameStart, commandOf, readAt};
 use expression::Command;
 use expression::Kind;
 use expression::Read;
@@ -27,73 +30,84 @@ pub fn read_at(s: &[u8], at: usize) -> Read
     if b == 0x21 {
         return Read::Command(Command::Union, at + 1);
     }
-    let n = tail_length(b);
+    if b == 0x51 {
+        return read_name(at, s.len());
+    }
+    let n = operand_count(b);
     if n == 0 {
         return Read::Fault(UNKNOWN);
     }
     if s.len() - at <= n {
         return Read::Fault(CUT);
     }
-    if n == NAME_LENGTH {
-        return Read::Command(
-            Command::Name(((at + 1) % 0x100000000) as u32),
-            at + (1 + NAME_LENGTH),
-        );
-    }
     let i = s[at + 1];
+    if i >= LABELS {
+        return Read::Fault(GROUP);
+    }
     if n == 1 {
-        return read_leaf(b, i, at + 2);
+        return Read::Command(leaf_of(b, i), at + 2);
     }
     read_pair(b, i, s[at + 2], at + 3)
 }
 
-// An atom or a rule of label g: test 7.
-fn read_leaf(b: u8, g: u8, next: usize) -> Read
-    ensures { λ r. ⌜ r ≡ cond (leb labelCount g) (Fault group) (Got (commandOf b g 0) next) ⌝ }
+// A name at an offset of so many bytes: test 6. What its bytes are is not looked at (02, Item 1).
+fn read_name(at: usize, len: usize) -> Read
+    requires { ⌜ at < len ⌝ }
+    ensures { λ r. ⌜ r ≡ cond (ltb (len - at) (1 + nameLength)) (Fault cut) (Got (Name (nameStart at)) (at + (1 + nameLength))) ⌝ }
 {
-    if g >= LABELS {
-        return Read::Fault(GROUP);
+    if len - at <= NAME_LENGTH {
+        return Read::Fault(CUT);
     }
-    Read::Command(command_of(b, g, 0), next)
+    Read::Command(
+        Command::Name(((at + 1) % 0x100000000) as u32),
+        at + (1 + NAME_LENGTH),
+    )
 }
 
-// A relabel or a connect of labels i and j: tests 7 and 8.
+// A relabel or a connect of labels i and j, the first of which passed test 7: 7 of the second, and 8.
 fn read_pair(b: u8, i: u8, j: u8, next: usize) -> Read
-    ensures { λ r. ⌜ r ≡ cond (leb labelCount i || leb labelCount j) (Fault group) (cond (eqb i j) (Fault same) (Got (commandOf b i j) next)) ⌝ }
+    requires { ⌜ operandCount b ≡ 2 ⌝ }
+    ensures { λ r. ⌜ r ≡ cond (leb labelCount j) (Fault group) (cond (eqb i j) (Fault same) (Got (commandOf b i j) next)) ⌝ }
 {
-    if i >= LABELS {
-        return Read::Fault(GROUP);
-    }
     if j >= LABELS {
         return Read::Fault(GROUP);
     }
     if i == j {
         return Read::Fault(SAME);
     }
-    Read::Command(command_of(b, i, j), next)
+    Read::Command(pair_of(b, i, j), next)
 }
 
-// How many bytes stand behind a command byte: operands, or a name, which may be any bytes (02, Item 1). 0 for a union, and for any other byte.
-fn tail_length(b: u8) -> usize
-    ensures { λ r. ⌜ r ≡ tailLength b ⌝ }
+// How many operands a command byte has; 0 for one that has none, and for any other byte.
+fn operand_count(b: u8) -> usize
+    ensures { λ r. ⌜ r ≡ operandCount b ⌝ }
 {
     match b {
         0x11 | 0x12 => 1,
         0x31 | 0x41 | 0x42 | 0x43 => 2,
-        0x51 => NAME_LENGTH,
         _ => 0,
     }
 }
 
-fn command_of(b: u8, x: u8, y: u8) -> Command
+// The command of a byte with one operand.
+fn leaf_of(b: u8, g: u8) -> Command
+    requires { ⌜ operandCount b ≡ 1 ⌝ }
+    ensures { λ r. ⌜ r ≡ commandOf b g 0 ⌝ }
+{
+    if b == 0x11 {
+        return Command::Atom(g as u32);
+    }
+    Command::Rule(g as u32)
+}
+
+// The command of a byte with two.
+fn pair_of(b: u8, x: u8, y: u8) -> Command
+    requires { ⌜ operandCount b ≡ 2 ⌝ }
     ensures { λ r. ⌜ r ≡ commandOf b x y ⌝ }
 {
     let i = x as u32;
     let j = y as u32;
     match b {
-        0x11 => Command::Atom(i),
-        0x12 => Command::Rule(i),
-        0x21 => Command::Union,
         0x31 => Command::Relabel(i, j),
         0x41 => Command::Connect(Kind::Head, i, j),
         0x42 => Command::Connect(Kind::Positive, i, j),

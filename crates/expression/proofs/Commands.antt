@@ -1,4 +1,4 @@
--- Laws of one command read: how many bytes stand behind its first, which of 5 to 8 refuses, where a command that is read ends, and where a name stands. Assumes nothing.
+-- Laws of one command read: how many operands a byte has, which of 5 to 8 refuses, where a command that is read ends, and where a name stands. Assumes nothing.
 use mathlib.Core.Path.{_≡_, refl, sym, ap, _∙_, subst}
 use mathlib.Core.Logic.{_⊎_, inl, inr}
 use mathlib.Core.Bool.{Bool, true, false, cond, not, _&&_, _||_, or-false, or-true, false≢true}
@@ -8,7 +8,7 @@ use native.Mathlib.Nat.{eq-or-lt-of-le}
 use native.Mathlib.Omega.{arith}
 use lib.Dec.{eqb, ltb, leb}
 use lib.ListN.{length, getD, List·getD-eq-default}
-use borrow.Author.Tests.{eqb-true, ne-eqb, lt-ltb, le-ltb, ltb-false}
+use borrow.Author.Tests.{eqb-true, ne-eqb, le-leb, lt-ltb, le-ltb, ltb-false}
 use Rattle.expression.specs.declared.Kind.the-variants.{Head, Positive, Negative}
 use Rattle.expression.specs.declared.Command.{Command}
 use Rattle.expression.specs.declared.Command.the-variants.{Atom, Rule, Union, Relabel, Connect, Name}
@@ -17,30 +17,30 @@ use Rattle.expression.specs.Limits.{byteLimit, nameLength}
 use Rattle.expression.specs.Refusals.{unknown, cut, group, same}
 use Rattle.expression.specs.Commands.{oneOperand, twoOperands, isName, isCommand, operandCount, tailLength, nameStart, commandOf, readCommand, readAt}
 
--- ---- how many bytes stand behind a command byte
+-- ---- how many operands a byte has
 
 -- a number from a on is a or past it
 from : (P : ℕ → Type 0) (a b : ℕ) → a ≤ b → P a → (a < b → P b) → P b
 from P a b h p q = elim (eq-or-lt-of-le h) [ inl e ↦ subst P e p | inr l ↦ q l ]
 
 -- 11 and 12
-pub leaf-tail : (b : ℕ) → 0x11 ≤ b → b < 0x13 → tailLength b ≡ 1
+pub leaf-operands : (b : ℕ) → 0x11 ≤ b → b < 0x13 → operandCount b ≡ 1
 unfolding operandCount oneOperand twoOperands
-leaf-tail b h l = from (λ x. tailLength x ≡ 1) 0x11 b h refl (λ h′. from (λ x. tailLength x ≡ 1) 0x12 b h′ refl (λ h″. absurd (omega arith)))
+leaf-operands b h l = from (λ x. operandCount x ≡ 1) 0x11 b h refl (λ h′. from (λ x. operandCount x ≡ 1) 0x12 b h′ refl (λ h″. absurd (omega arith)))
 
 -- 41, 42 and 43
-pub connect-tail : (b : ℕ) → 0x41 ≤ b → b < 0x44 → tailLength b ≡ 2
+pub connect-operands : (b : ℕ) → 0x41 ≤ b → b < 0x44 → operandCount b ≡ 2
 unfolding operandCount oneOperand twoOperands
-connect-tail b h l =
-    from (λ x. tailLength x ≡ 2) 0x41 b h refl
-    (λ h′. from (λ x. tailLength x ≡ 2) 0x42 b h′ refl
-    (λ h″. from (λ x. tailLength x ≡ 2) 0x43 b h″ refl (λ h‴. absurd (omega arith))))
+connect-operands b h l =
+    from (λ x. operandCount x ≡ 2) 0x41 b h refl
+    (λ h′. from (λ x. operandCount x ≡ 2) 0x42 b h′ refl
+    (λ h″. from (λ x. operandCount x ≡ 2) 0x43 b h″ refl (λ h‴. absurd (omega arith))))
 
--- every other byte but 31 and 51
-pub no-tail : (b : ℕ) → (b ≡ 0x11 → ⊥) → (b ≡ 0x12 → ⊥) → (b ≡ 0x31 → ⊥) → (b ≡ 0x41 → ⊥) → (b ≡ 0x42 → ⊥) → (b ≡ 0x43 → ⊥) → (b ≡ 0x51 → ⊥) → tailLength b ≡ 0
+-- every other byte but 31
+pub no-operands : (b : ℕ) → (b ≡ 0x11 → ⊥) → (b ≡ 0x12 → ⊥) → (b ≡ 0x31 → ⊥) → (b ≡ 0x41 → ⊥) → (b ≡ 0x42 → ⊥) → (b ≡ 0x43 → ⊥) → operandCount b ≡ 0
 unfolding operandCount oneOperand twoOperands
-no-tail b atom rule relabel head positive negative name =
-    simp (ne-eqb _ _ atom, ne-eqb _ _ rule, ne-eqb _ _ relabel, ne-eqb _ _ head, ne-eqb _ _ positive, ne-eqb _ _ negative, ne-eqb _ _ name)
+no-operands b atom rule relabel head positive negative =
+    simp (ne-eqb _ _ atom, ne-eqb _ _ rule, ne-eqb _ _ relabel, ne-eqb _ _ head, ne-eqb _ _ positive, ne-eqb _ _ negative)
 
 -- ---- which test refuses: command byte b, n bytes from it to the end, operands x and y
 
@@ -72,6 +72,15 @@ module _ (b : ℕ) where
       step true false h = absurd (omega arith)
       step false false h = absurd (omega arith)
 
+  pub few-operands : operandCount b ≤ 2
+  unfolding operandCount
+  few-operands = step (oneOperand b) (twoOperands b)
+    where
+      step : (o t : Bool) → cond t 2 (cond o 1 0) ≤ 2
+      step o true = omega arith
+      step true false = omega arith
+      step false false = omega arith
+
   some-is : 1 ≤ operandCount b → (oneOperand b || twoOperands b) ≡ true
   unfolding operandCount
   some-is h = step (oneOperand b) (twoOperands b) h
@@ -90,29 +99,10 @@ module _ (b : ℕ) where
       step false true e = refl
       step false false e = e
 
-  few-operands : operandCount b ≤ 2
-  unfolding operandCount
-  few-operands = step (oneOperand b) (twoOperands b)
-    where
-      step : (o t : Bool) → cond t 2 (cond o 1 0) ≤ 2
-      step o true = omega arith
-      step true false = omega arith
-      step false false = omega arith
-
-  -- behind a command byte stand a name, or operands alone
-  tail-is : (b ≡ 0x51) ⊎ ((isName b ≡ false) × (tailLength b ≡ operandCount b))
-  tail-is = step (isName b) refl
-    where
-      step : (p : Bool) → isName b ≡ p → (b ≡ 0x51) ⊎ ((isName b ≡ false) × (tailLength b ≡ operandCount b))
-      step true e = inl (eqb-true b 0x51 e)
-      step false e = inr (e, ap (λ p. cond p nameLength (operandCount b)) e)
-
-  named : b ≡ 0x51 → tailLength b ≡ nameLength
-  named e = rw e
-
-  -- two operands are the most
-  pub pair-tail : 2 ≤ tailLength b → (tailLength b ≡ nameLength → ⊥) → tailLength b ≡ 2
-  pair-tail h m = elim (tail-is) [ inl q ↦ absurd (m (named q)) | inr (f, t) ↦ omega (arith, few-operands) ]
+  -- 51 has no operands
+  no-name : 1 ≤ operandCount b → isName b ≡ false
+  unfolding operandCount oneOperand twoOperands
+  no-name h = ne-eqb b 0x51 (λ e. let h′ : 1 ≤ operandCount 0x51 = subst (λ x. 1 ≤ operandCount x) e h in omega arith)
 
   leaf-command : (x y : ℕ) → operandCount b ≡ 1 → commandOf b x y ≡ commandOf b x 0
   unfolding commandOf oneOperand
@@ -123,59 +113,52 @@ module _ (b : ℕ) where
       step false true c d e = refl
       step false false c d e = absurd (false≢true e)
 
+  -- ---- which command it is
+
+  pub rule-byte : operandCount b ≡ 1 → (b ≡ 0x11 → ⊥) → eqb b 0x12 ≡ true
+  unfolding oneOperand
+  rule-byte h e = sym (ap (λ p. p || eqb b 0x12) (ne-eqb b 0x11 e)) ∙ one-is h .0
+
+  no-byte : (v : ℕ) → operandCount v ≤ 1 → operandCount b ≡ 2 → eqb b v ≡ false
+  no-byte v l h = ne-eqb b v (λ e. omega (arith, ap operandCount e))
+
+  pub pair-byte : operandCount b ≡ 2 → (eqb b 0x11 ≡ false) × (eqb b 0x12 ≡ false) × (eqb b 0x21 ≡ false)
+  unfolding operandCount oneOperand twoOperands
+  pair-byte h = (no-byte 0x11 (omega arith) h, no-byte 0x12 (omega arith) h, no-byte 0x21 (omega arith) h)
+
 module _ (K at n b x y : ℕ) where
   pub union-read : b ≡ 0x21 → 1 ≤ n → readCommand K at n b x y ≡ Got Union (at + 1)
   unfolding readCommand isCommand operandCount oneOperand twoOperands commandOf
   union-read e h = rw e (simp (le-ltb n 1 h))
 
-  pub unknown-read : (b ≡ 0x21 → ⊥) → tailLength b ≡ 0 → readCommand K at n b x y ≡ Fault unknown
+  pub name-read : b ≡ 0x51 → readCommand K at n b x y ≡ cond (ltb n (1 + nameLength)) (Fault cut) (Got (Name (nameStart at)) (at + (1 + nameLength)))
+  unfolding readCommand isCommand oneOperand twoOperands
+  name-read e = rw e
+
+  pub unknown-read : (b ≡ 0x21 → ⊥) → (b ≡ 0x51 → ⊥) → operandCount b ≡ 0 → readCommand K at n b x y ≡ Fault unknown
   unfolding readCommand isCommand
-  unknown-read e h =
-      elim (tail-is b) [
-        | inl q ↦ absurd (omega (arith, named b q))
-        | inr (f, t) ↦ simp (ne-eqb b 0x21 e, f, none-is b (sym t ∙ h) .0, none-is b (sym t ∙ h) .1)
-      ]
+  unknown-read e f h = simp (ne-eqb b 0x21 e, ne-eqb b 0x51 f, none-is b h .0, none-is b h .1)
 
-  pub cut-read : 1 ≤ tailLength b → n ≤ tailLength b → readCommand K at n b x y ≡ Fault cut
-  unfolding readCommand isCommand oneOperand twoOperands
-  cut-read h l =
-      elim (tail-is b) [
-        | inl q ↦ rw q (simp (lt-ltb n 17 (omega (arith, named b q))))
-        | inr (f, t) ↦ simp (some-command b (omega arith), lt-ltb n (1 + tailLength b) (omega arith))
-      ]
-
-  pub name-read : tailLength b ≡ nameLength → nameLength < n → readCommand K at n b x y ≡ Got (Name (nameStart at)) (at + (1 + nameLength))
-  unfolding readCommand isCommand oneOperand twoOperands
-  name-read h l =
-      elim (tail-is b) [
-        | inl q ↦ rw q (simp (le-ltb n 17 (omega arith)))
-        | inr (f, t) ↦ absurd (omega (arith, few-operands b))
-      ]
-
-  pub leaf-read : tailLength b ≡ 1 → 1 < n → readCommand K at n b x y ≡ cond (leb K x) (Fault group) (Got (commandOf b x 0) (at + 2))
+  pub cut-read : 1 ≤ operandCount b → n ≤ operandCount b → readCommand K at n b x y ≡ Fault cut
   unfolding readCommand
-  leaf-read h l =
-      elim (tail-is b) [
-        | inl q ↦ absurd (omega (arith, named b q))
-        | inr (f, t) ↦
-            let e : operandCount b ≡ 1 = sym t ∙ h in
-            simp (some-command b (omega arith), f, e, le-ltb n 2 (omega arith), one-is b e .0, one-is b e .1, leaf-command b x y e, or-false (leb K x))
-      ]
+  cut-read h l = simp (some-command b h, no-name b h, lt-ltb n (1 + operandCount b) (omega arith))
 
-  pub pair-read : 2 ≤ tailLength b → (tailLength b ≡ nameLength → ⊥) → tailLength b < n
-      → readCommand K at n b x y ≡ cond (leb K x || leb K y) (Fault group) (cond (eqb x y) (Fault same) (Got (commandOf b x y) (at + 3)))
+  -- 7 of the first operand, whether there is a second or not
+  pub group-read : 1 ≤ operandCount b → operandCount b < n → K ≤ x → readCommand K at n b x y ≡ Fault group
   unfolding readCommand
-  pair-read h m l =
-      elim (tail-is b) [
-        | inl q ↦ absurd (m (named b q))
-        | inr (f, t) ↦
-            let e = two-is b (omega arith) in
-            simp (some-command b (omega arith), f, e .0, e .1, le-ltb n 3 (omega arith), or-true (oneOperand b))
-      ]
+  group-read h l k = simp (some-command b h, no-name b h, some-is b h, le-ltb n (1 + operandCount b) (omega arith), le-leb K x k)
+
+  pub leaf-read : operandCount b ≡ 1 → 1 < n → readCommand K at n b x y ≡ cond (leb K x) (Fault group) (Got (commandOf b x 0) (at + 2))
+  unfolding readCommand
+  leaf-read h l = simp (some-command b (omega arith), no-name b (omega arith), h, le-ltb n 2 (omega arith), one-is b h .0, one-is b h .1, leaf-command b x y h, or-false (leb K x))
+
+  pub pair-read : 2 ≤ operandCount b → operandCount b < n → readCommand K at n b x y ≡ cond (leb K x || leb K y) (Fault group) (cond (eqb x y) (Fault same) (Got (commandOf b x y) (at + 3)))
+  unfolding readCommand
+  pair-read h l = let e = two-is b h in simp (some-command b (omega arith), no-name b (omega arith), e .0, e .1, le-ltb n 3 (omega arith), or-true (oneOperand b))
 
 pub past-end : (K : ℕ) (s : List ℕ) (at : ℕ) → length s ≤ at → readAt K s at ≡ Fault unknown
 unfolding readAt operandCount oneOperand twoOperands
-past-end K s at h = rw (List·getD-eq-default s 0 h) (unknown-read K at (length s - at) 0 (getD s (at + 1) 0) (getD s (at + 2) 0) (λ e. omega arith) refl)
+past-end K s at h = rw (List·getD-eq-default s 0 h) (unknown-read K at (length s - at) 0 (getD s (at + 1) 0) (getD s (at + 2) 0) (λ e. omega arith) (λ e. omega arith) refl)
 
 -- ---- where a command ends
 

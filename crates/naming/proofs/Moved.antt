@@ -15,8 +15,8 @@ use Rattle.expression.specs.declared.Command.the-variants.{Atom, Rule, Union, R
 use Rattle.expression.specs.declared.Read.the-variants.{Command as Got, Fault}
 use Rattle.expression.specs.Limits.{nameLength}
 use Rattle.expression.specs.Refusals.{unknown, cut, group, same}
-use Rattle.expression.specs.Commands.{tailLength, nameStart, commandOf, readCommand, readAt}
-use Rattle.expression.proofs.Commands.{pair-tail, union-read, unknown-read, cut-read, name-read, leaf-read, pair-read, read-ends}
+use Rattle.expression.specs.Commands.{operandCount, nameStart, commandOf, readCommand, readAt}
+use Rattle.expression.proofs.Commands.{few-operands, union-read, name-read, unknown-read, cut-read, leaf-read, pair-read, read-ends}
 use Rattle.naming.specs.Unnamed.{unlessName}
 
 -- ---- names and the others
@@ -62,23 +62,19 @@ module _ (K b at n x y at′ n′ x′ y′ : ℕ) (c : Command) (next : ℕ) (r
   union-moved : b ≡ 0x21 → Same
   union-moved e = union-read K at′ n′ b x′ y′ e (omega arith) ∙ ends Union 1 (sym (union-read K at n b x y e (omega arith)) ∙ read)
 
-  -- nothing behind it: it would be no command
-  none-moved : (b ≡ 0x21 → ⊥) → tailLength b ≡ 0 → Same
-  none-moved e h = let q = sym (unknown-read K at n b x y e h) ∙ read in let z : _≡_ {A = ℕ} 0 1 = cc in absurd (omega arith)
-
-  -- cut here, it would not have been read
-  uncut : 1 ≤ tailLength b → tailLength b < n
-  uncut h = step (ltb (tailLength b) n) refl
+  name-moved : b ≡ 0x51 → Same
+  name-moved e = step (ltb n (1 + nameLength)) (sym (name-read K at n b x y e) ∙ read)
     where
-      step : (t : Bool) → ltb (tailLength b) n ≡ t → tailLength b < n
-      step true e = ltb-true (tailLength b) n e
-      step false e = let q = sym (cut-read K at n b x y h (ltb-false (tailLength b) n e)) ∙ read in let z : _≡_ {A = ℕ} 0 1 = cc in absurd (omega arith)
+      step : (q : Bool) → cond q (Fault cut) (Got (Name (nameStart at)) (at + (1 + nameLength))) ≡ Got c next → Same
+      step true r = let z : _≡_ {A = ℕ} 0 1 = cc in absurd (omega arith)
+      step false r = let e : c ≡ Name (nameStart at) = cc in absurd (subst Other e o)
 
-  name-moved : tailLength b ≡ nameLength → Same
-  name-moved h = let q = sym (name-read K at n b x y h (omega (arith, uncut (omega arith)))) ∙ read in let e : c ≡ Name (nameStart at) = cc in absurd (subst Other e o)
+  -- neither that nor operands: it would be no command
+  none-moved : (b ≡ 0x21 → ⊥) → (b ≡ 0x51 → ⊥) → operandCount b ≡ 0 → Same
+  none-moved e f h = let r = sym (unknown-read K at n b x y e f h) ∙ read in let z : _≡_ {A = ℕ} 0 1 = cc in absurd (omega arith)
 
-  leaf-moved : tailLength b ≡ 1 → Same
-  leaf-moved h = labels (leb K x) refl (sym (leaf-read K at n b x y h (omega (arith, uncut (omega arith)))) ∙ read)
+  leaf-moved : operandCount b ≡ 1 → Same
+  leaf-moved h = step (ltb 1 n) refl
     where
       labels : (p : Bool) → leb K x ≡ p → cond p (Fault group) (Got (commandOf b x 0) (at + 2)) ≡ Got c next → Same
       labels true e q = let z : _≡_ {A = ℕ} 0 1 = cc in absurd (omega arith)
@@ -87,8 +83,12 @@ module _ (K b at n x y at′ n′ x′ y′ : ℕ) (c : Command) (next : ℕ) (r
           let f = first (omega arith) in
           leaf-read K at′ n′ b x′ y′ h (omega arith) ∙ rw (f, e) (ends (commandOf b x 0) 2 q)
 
-  pair-moved : 2 ≤ tailLength b → (tailLength b ≡ nameLength → ⊥) → Same
-  pair-moved h m = labels (leb K x || leb K y) (eqb x y) refl refl (sym (pair-read K at n b x y h m (uncut (omega arith))) ∙ read)
+      step : (t : Bool) → ltb 1 n ≡ t → Same
+      step false e = let q = sym (cut-read K at n b x y (omega arith) (omega (arith, ltb-false 1 n e))) ∙ read in let z : _≡_ {A = ℕ} 0 1 = cc in absurd (omega arith)
+      step true e = labels (leb K x) refl (sym (leaf-read K at n b x y h (ltb-true 1 n e)) ∙ read)
+
+  pair-moved : 2 ≤ operandCount b → Same
+  pair-moved h = step (ltb (operandCount b) n) refl
     where
       labels : (p q : Bool) → (leb K x || leb K y) ≡ p → eqb x y ≡ q → cond p (Fault group) (cond q (Fault same) (Got (commandOf b x y) (at + 3))) ≡ Got c next → Same
       labels true q e f r = let z : _≡_ {A = ℕ} 0 1 = cc in absurd (omega arith)
@@ -97,17 +97,21 @@ module _ (K b at n x y at′ n′ x′ y′ : ℕ) (c : Command) (next : ℕ) (r
           let l : at + 3 ≡ next = cc in
           let g = first (omega arith) in
           let i = second (omega arith) in
-          pair-read K at′ n′ b x′ y′ h m (omega (arith, pair-tail b h m)) ∙ rw (g, i, e, f) (ends (commandOf b x y) 3 r)
+          pair-read K at′ n′ b x′ y′ h (omega (arith, few-operands b)) ∙ rw (g, i, e, f) (ends (commandOf b x y) 3 r)
+
+      step : (t : Bool) → ltb (operandCount b) n ≡ t → Same
+      step false e = let q = sym (cut-read K at n b x y (omega arith) (omega (arith, ltb-false (operandCount b) n e))) ∙ read in let z : _≡_ {A = ℕ} 0 1 = cc in absurd (omega arith)
+      step true e = labels (leb K x || leb K y) (eqb x y) refl refl (sym (pair-read K at n b x y h (ltb-true (operandCount b) n e)) ∙ read)
 
   command-moved : Same
-  command-moved = step (eqb b 0x21) (eqb (tailLength b) nameLength) (tailLength b) refl refl refl
+  command-moved = step (eqb b 0x21) (eqb b 0x51) (operandCount b) refl refl refl
     where
-      step : (u a : Bool) (k : ℕ) → eqb b 0x21 ≡ u → eqb (tailLength b) nameLength ≡ a → tailLength b ≡ k → Same
+      step : (u a : Bool) (k : ℕ) → eqb b 0x21 ≡ u → eqb b 0x51 ≡ a → operandCount b ≡ k → Same
       step true a k e f h = union-moved (eqb-true b 0x21 e)
-      step false true k e f h = name-moved (eqb-true (tailLength b) nameLength f)
-      step false false zero e f h = none-moved (eqb-false b 0x21 e) h
+      step false true k e f h = name-moved (eqb-true b 0x51 f)
+      step false false zero e f h = none-moved (eqb-false b 0x21 e) (eqb-false b 0x51 f) h
       step false false (suc zero) e f h = leaf-moved h
-      step false false (suc (suc k)) e f h = pair-moved (omega arith) (eqb-false (tailLength b) nameLength f)
+      step false false (suc (suc k)) e f h = pair-moved (omega arith)
 
 -- ---- the bytes of a command, with others before them and others behind
 

@@ -8,16 +8,13 @@ returns : tie.Need-returns
 returns c = simp (le-leb _ _ (c .if1 .taken))
 
 returns-2 : tie.Need-returns-2
-returns-2 c = simp (lt-leb _ _ (c .before .if1 .left), le-leb _ _ (c .if2 .taken))
+returns-2 c = simp (lt-leb _ _ (c .before .if1 .left), eq-eqb _ _ (c .if2 .taken))
+
+pair-of-requires : tie.Need-pair-of-requires
+pair-of-requires c κs = search needs
 
 returns-3 : tie.Need-returns-3
-returns-3 c = simp (lt-leb _ _ (c .before .before .if1 .left), lt-leb _ _ (c .before .if2 .left), eq-eqb _ _ (c .if3 .taken))
-
-command-of-requires : tie.Need-command-of-requires
-command-of-requires c κs = search needs
-
-returns-4 : tie.Need-returns-4
-returns-4 c = simp (c .command-of .ensures, lt-leb _ _ (c .before .before .before .if1 .left), lt-leb _ _ (c .before .before .if2 .left), ne-eqb _ _ (c .before .if3 .left))
+returns-3 c = simp (c .pair-of .ensures, lt-leb _ _ (c .before .before .if1 .left), ne-eqb _ _ (c .before .if2 .left))
 
 pub read-pair-spec : {M : Type 1} → statement M
-read-pair-spec = tie.close (tie.spec returns returns-2 returns-3 command-of-requires returns-4)
+read-pair-spec = tie.close (tie.spec returns returns-2 pair-of-requires returns-3)
