@@ -136,11 +136,6 @@ size_t random_policy(random_source *r, uint8_t *sheet, unsigned atoms, unsigned 
 
 enum { NAMED = 1 + POLICY_NAME };
 
-static size_t bytes_of(unsigned code)
-{
-    return code == 0x21 ? 1 : code < 0x21 ? 2 : code == 0x51 ? NAMED : 3;
-}
-
 static size_t add_bytes(uint8_t *sheet, size_t sheet_len, size_t at, const uint8_t *bytes, size_t n)
 {
     memmove(sheet + at + n, sheet + at, sheet_len - at);
@@ -173,7 +168,7 @@ static size_t add_name(random_source *r, uint8_t *sheet, size_t sheet_len, size_
 size_t random_names(random_source *r, uint8_t *sheet, size_t sheet_len)
 {
     for (size_t at = 0; at < sheet_len;) {
-        at += bytes_of(sheet[at]);
+        at = policy_command_at(sheet, at).next;
         if (sheet_len + NAMED <= 4096 && random_below(r, 4) == 0) sheet_len = add_name(r, sheet, sheet_len, at);
     }
     return sheet_len;
@@ -197,7 +192,7 @@ static size_t add_command(random_source *r, uint8_t *sheet, size_t sheet_len, si
     bytes[2] = (uint8_t)random_below(r, POLICY_GROUPS);
     if (bytes[0] == 0x51) return add_name(r, sheet, sheet_len, at);
     unsigned times = bytes[0] < 0x21 && random_below(r, 2) ? 9 : 1;
-    for (; times > 0; times--) sheet_len = add_bytes(sheet, sheet_len, at, bytes, bytes_of(bytes[0]));
+    for (; times > 0; times--) sheet_len = add_bytes(sheet, sheet_len, at, bytes, policy_command_at(bytes, 0).next);
     return sheet_len;
 }
 
