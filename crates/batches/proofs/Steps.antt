@@ -13,6 +13,7 @@ use borrow.Author.Tests.{eq-eqb, ne-eqb}
 use lib.ListN.{length, getD}
 use Rattle.expression.specs.declared.Kind.{Kind}
 use Rattle.expression.specs.declared.Kind.the-variants.{Head, Positive, Negative}
+use Rattle.expression.specs.declared.NewAtom.{NewAtom}
 use Rattle.expression.specs.declared.Command.{Command}
 use Rattle.expression.specs.declared.Command.the-variants.{Atom, Rule, Union, Relabel, Connect, Name}
 use Rattle.expression.specs.Commands.{Suits}
@@ -107,7 +108,7 @@ rule-word K g b = word-is K 0 0 g g (omega (arith, b)) b (rw (zero-mul (2 ^ K)) 
 
 -- what no batch has
 module _ {c : Command} where
-  pub no-atom : (g : ℕ) → c ≡ Atom g → Joins c → ⊥
+  pub no-atom : (a : NewAtom) → c ≡ Atom a → Joins c → ⊥
   unfolding effect
   no-atom g e h = rw e at h
 
@@ -137,7 +138,7 @@ module _ (K : ℕ) (c : Command) where
   unfolding stepTriple mapTriple
   connect-steps k i j q r e = rw e
 
-  pub atom-steps : (g q r : ℕ) → c ≡ Atom g → r ≡ stepTriple K c q r
+  pub atom-steps : (a : NewAtom) (q r : ℕ) → c ≡ Atom a → r ≡ stepTriple K c q r
   unfolding stepTriple
   atom-steps g q r e = rw e
 

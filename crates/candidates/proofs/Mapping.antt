@@ -4,6 +4,7 @@ use mathlib.Core.Bool.{cond}
 use Prim.Native.Nat.{ℕ, _+_, _*_, _%_, _^_, _<_}
 use Rattle.labels.proofs.Masks.{less, less-digit}
 use Rattle.expression.specs.declared.Kind.{Kind}
+use Rattle.expression.specs.declared.NewAtom.{NewAtom}
 use Rattle.expression.specs.declared.Command.{Command}
 use Rattle.expression.specs.declared.Command.the-variants.{Atom, Rule, Union, Relabel, Connect, Name}
 use Rattle.expression.specs.Commands.{Suits}
@@ -28,7 +29,7 @@ module _ (K : ℕ) (c : Command) where
   unfolding mapTriple connectTriple
   connected k i j q r d e s h = rw e (less-digit (2 * K + j) r d 32 (settles K k i q r) h s)
 
-  pub atom-leaves : (g q r : ℕ) → c ≡ Atom g → r ≡ mapTriple K c q r
+  pub atom-leaves : (a : NewAtom) (q r : ℕ) → c ≡ Atom a → r ≡ mapTriple K c q r
   unfolding mapTriple
   atom-leaves g q r e = rw e
 

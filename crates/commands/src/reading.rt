@@ -1,17 +1,20 @@
 // One command from bytes (01, "The sheet").
 ghost use mathlib.Core.Path.{_≡_};
 ghost use mathlib.Core.Bool.{cond};
-ghost use Prim.Native.Nat.{_+_, _-_, _<_};
-ghost use lib.Dec.{eqb, ltb, leb};
+ghost use Prim.Native.Nat.{_+_, _^_, _<_};
+ghost use lib.Dec.{eqb, leb};
 ghost use Rattle.labels.specs.Labels.{labelCount};
 ghost use Rattle.expression.specs.declared.Read.the-variants.{Command as Got, Fault};
+ghost use Rattle.expression.specs.declared.Role.the-variants.{Derived, External};
 ghost use Rattle.expression.specs.declared.Command.the-variants.{Name};
 ghost use Rattle.expression.specs.Limits.{nameLength};
-ghost use Rattle.expression.specs.Refusals.{cut, group, same};
-ghost use Rattle.expression.specs.Commands.{operandCount, nameStart, commandOf, readAt};
+ghost use Rattle.expression.specs.Refusals.{group, same};
+ghost use Rattle.expression.specs.Commands.{operandCount, tailLength, nameStart, commandOf, readAt};
 use expression::Command;
 use expression::Kind;
+use expression::NewAtom;
 use expression::Read;
+use expression::Role;
 use expression::limits::NAME_LENGTH;
 use expression::refusals::CUT;
 use expression::refusals::GROUP;
@@ -30,15 +33,15 @@ pub fn read_at(s: &[u8], at: usize) -> Read
     if b == 0x21 {
         return Read::Command(Command::Union, at + 1);
     }
-    if b == 0x51 {
-        return read_name(at, s.len());
-    }
-    let n = operand_count(b);
+    let n = tail_length(b);
     if n == 0 {
         return Read::Fault(UNKNOWN);
     }
     if s.len() - at <= n {
         return Read::Fault(CUT);
+    }
+    if n == NAME_LENGTH {
+        return read_name(at);
     }
     let i = s[at + 1];
     if i >= LABELS {
@@ -50,14 +53,11 @@ pub fn read_at(s: &[u8], at: usize) -> Read
     read_pair(b, i, s[at + 2], at + 3)
 }
 
-// A name at an offset of so many bytes: test 6. What its bytes are is not looked at (02, Item 1).
-fn read_name(at: usize, len: usize) -> Read
-    requires { ⌜ at < len ⌝ }
-    ensures { λ r. ⌜ r ≡ cond (ltb (len - at) (1 + nameLength)) (Fault cut) (Got (Name (nameStart at)) (at + (1 + nameLength))) ⌝ }
+// A name whose command is at an offset. What its bytes are is not looked at (02, Item 1).
+fn read_name(at: usize) -> Read
+    requires { ⌜ at + (1 + nameLength) < 2 ^ 64 ⌝ }
+    ensures { λ r. ⌜ r ≡ Got (Name (nameStart at)) (at + (1 + nameLength)) ⌝ }
 {
-    if len - at <= NAME_LENGTH {
-        return Read::Fault(CUT);
-    }
     Read::Command(
         Command::Name(((at + 1) % 0x100000000) as u32),
         at + (1 + NAME_LENGTH),
@@ -78,13 +78,14 @@ fn read_pair(b: u8, i: u8, j: u8, next: usize) -> Read
     Read::Command(pair_of(b, i, j), next)
 }
 
-// How many operands a command byte has; 0 for one that has none, and for any other byte.
-fn operand_count(b: u8) -> usize
-    ensures { λ r. ⌜ r ≡ operandCount b ⌝ }
+// How many bytes a command has behind its own; 0 for one that has none, and for any other byte.
+fn tail_length(b: u8) -> usize
+    ensures { λ r. ⌜ r ≡ tailLength b ⌝ }
 {
     match b {
-        0x11 | 0x12 => 1,
+        0x11 | 0x12 | 0x13 => 1,
         0x31 | 0x41 | 0x42 | 0x43 => 2,
+        0x51 => NAME_LENGTH,
         _ => 0,
     }
 }
@@ -94,10 +95,24 @@ fn leaf_of(b: u8, g: u8) -> Command
     requires { ⌜ operandCount b ≡ 1 ⌝ }
     ensures { λ r. ⌜ r ≡ commandOf b g 0 ⌝ }
 {
-    if b == 0x11 {
-        return Command::Atom(g as u32);
+    let label = g as u32;
+    if b == 0x12 {
+        return Command::Rule(label);
     }
-    Command::Rule(g as u32)
+    Command::Atom(NewAtom {
+        label,
+        role: role_of(b),
+    })
+}
+
+// The role of an atom, by its byte.
+fn role_of(b: u8) -> Role
+    ensures { λ r. ⌜ r ≡ cond (eqb b 0x13) External Derived ⌝ }
+{
+    if b == 0x13 {
+        return Role::External;
+    }
+    Role::Derived
 }
 
 // The command of a byte with two.

@@ -48,8 +48,16 @@ row s P G i o r p = record {
 listed : List ℕ
 listed = 0x11 ∷ 0 ∷ 0x12 ∷ 1 ∷ 0x21 ∷ 0x41 ∷ 0 ∷ 1 ∷ []
 
+-- archive if mirror, mirror if archive; the mirror comes by such a byte
+circleBy : ℕ → List ℕ
+circleBy b = 0x11 ∷ 0 ∷ b ∷ 1 ∷ 0x21 ∷ 0x12 ∷ 2 ∷ 0x21 ∷ 0x12 ∷ 3 ∷ 0x21 ∷ 0x41 ∷ 0 ∷ 2 ∷ 0x42 ∷ 1 ∷ 2 ∷ 0x41 ∷ 1 ∷ 3 ∷ 0x42 ∷ 0 ∷ 3 ∷ []
+
 circle : List ℕ
-circle = 0x11 ∷ 0 ∷ 0x11 ∷ 1 ∷ 0x21 ∷ 0x12 ∷ 2 ∷ 0x21 ∷ 0x12 ∷ 3 ∷ 0x21 ∷ 0x41 ∷ 0 ∷ 2 ∷ 0x42 ∷ 1 ∷ 2 ∷ 0x41 ∷ 1 ∷ 3 ∷ 0x42 ∷ 0 ∷ 3 ∷ []
+circle = circleBy 0x11
+
+-- copy 0, unless copy 1 is kept, which is granted
+barred : List ℕ
+barred = 0x11 ∷ 0 ∷ 0x13 ∷ 1 ∷ 0x21 ∷ 0x12 ∷ 2 ∷ 0x21 ∷ 0x41 ∷ 0 ∷ 2 ∷ 0x43 ∷ 1 ∷ 2 ∷ []
 
 twins : List ℕ
 twins = 0x11 ∷ 0 ∷ 0x11 ∷ 0 ∷ 0x21 ∷ []
@@ -90,17 +98,29 @@ rows =
     ∷ row (0x11 ∷ 2 ∷ 0x11 ∷ 4 ∷ 0x21 ∷ []) 3 1 0 0 (Refused 15 4) (Refused 16 4)
     -- 31 i j moves i to j: moved the other way, no atom would be put into the rule's head
     ∷ row (0x11 ∷ 0 ∷ 0x12 ∷ 1 ∷ 0x21 ∷ 0x31 ∷ 0 ∷ 2 ∷ 0x41 ∷ 2 ∷ 1 ∷ []) 32 32 0 0 (Yes 1) (Yes 0)
+    -- 02, Item 9: an external atom may be in with no rule that makes it, where another may not; a rule is met by it, and barred by it
+    ∷ row (0x13 ∷ 0 ∷ []) 32 32 0 0 (Yes 0) (Yes 0)
+    ∷ row (0x13 ∷ 0 ∷ []) 32 32 1 0 (Yes 1) (Yes 0)
+    ∷ row (0x13 ∷ 0 ∷ []) 32 32 0 1 (Yes 0) (Yes 0)
+    ∷ row (0x11 ∷ 0 ∷ []) 32 32 1 0 No (Yes 0)
+    ∷ row (circleBy 0x13) 32 32 0 0 (Yes 0) (Yes 0)
+    ∷ row (circleBy 0x13) 32 32 2 0 (Yes 3) (Yes 0)
+    ∷ row circle 32 32 2 0 No (Yes 0)
+    ∷ row (circleBy 0x13) 32 32 2 1 No No
+    ∷ row barred 32 32 0 0 (Yes 2) (Yes 0)
+    ∷ row barred 32 32 0 2 (Yes 1) (Yes 0)
+    ∷ row barred 32 32 3 0 No (Yes 0)
     ∷ []
 
 starred : map (λ r. groundedOutcome labelCount (r .asked)) rows ≡ map (λ r. r .says) rows
-unfolding rows row listed circle twins either firstMask chosen saysYes run numbers treeOf expressionOf actAll trees grounded decide conclude answer walk pairsFault groundedAccepts accepting pairs mapPair unitePairs setOf compareLists
+unfolding rows row listed circleBy circle barred twins either firstMask chosen saysYes run numbers treeOf expressionOf actAll trees grounded decide conclude answer walk pairsFault groundedAccepts accepting pairs mapPair unitePairs setOf compareLists
     commandsIn assumed byMasks check checks overlongTest limitsTest crampedTest clashTest faultTest unjoinedTest absentTest depthOf isLimit countsOf faultPlace faultNumber isFaulty firstOf reading readFrom behind countFault counted effect noCounts readAt readCommand commandOf operandCount isCommand
     twoOperands oneOperand act uniteNewest changeNewest allMet connectTriple settles relabelTriple markT markF
     markU tables leaf some products canon insertAll insert compareNumbers has without replace
 starred = refl
 
 starred-plain : map (λ r. plainOutcome labelCount (r .asked)) rows ≡ map (λ r. r .plainly) rows
-unfolding rows row listed circle twins either plain decide conclude answer walk plainFault plainAccepts triples commandsIn assumed byMasks check checks overlongTest limitsTest crampedTest clashTest faultTest unjoinedTest absentTest depthOf isLimit countsOf faultPlace faultNumber isFaulty firstOf reading readFrom behind countFault counted effect noCounts readAt readCommand commandOf operandCount isCommand
+unfolding rows row listed circleBy circle barred twins either plain decide conclude answer walk plainFault plainAccepts triples commandsIn assumed byMasks check checks overlongTest limitsTest crampedTest clashTest faultTest unjoinedTest absentTest depthOf isLimit countsOf faultPlace faultNumber isFaulty firstOf reading readFrom behind countFault counted effect noCounts readAt readCommand commandOf operandCount isCommand
     twoOperands oneOperand act uniteNewest changeNewest allMet connectTriple settles relabelTriple markT markF
     markU tables leaf some products canon insertAll insert compareNumbers has without replace
 starred-plain = refl

@@ -116,6 +116,10 @@ moved =
     ∷ record { asks = call listed (at 2 1 1 0 0) (rest 24); leaves = leaving (at 4 2 1 1 0) Moved (replicate 8 0 ++ bare ++ rest 8) }
     -- 02, Item 12: 2^30 - 1 is a triple
     ∷ record { asks = call listed (at 2 1 1 0 0) (1073741823 ∷ rest 23); leaves = leaving (at 4 2 1 1 0) Moved (1073741823 ∷ replicate 7 0 ++ bare ++ rest 8) }
+    -- 02, Item 9: the pairs of 11, both without subsets, and the same alone
+    ∷ record { asks = call (0x13 ∷ 0 ∷ []) (at 0 0 0 0 0) (rest 16); leaves = leaving (at 2 1 2 0 0) Moved (1 ∷ 0 ∷ 0 ∷ 0 ∷ 1024 ∷ 0 ∷ 0 ∷ 0 ∷ rest 8) }
+    ∷ record { asks = pinned 1 0 (call (0x13 ∷ 0 ∷ []) (at 0 0 0 0 0) (rest 16)); leaves = leaving (at 2 1 1 0 0) Moved (1 ∷ 0 ∷ 0 ∷ 0 ∷ rest 12) }
+    ∷ record { asks = pinned 0 1 (call (0x13 ∷ 0 ∷ []) (at 0 0 0 0 0) (rest 16)); leaves = leaving (at 2 1 1 0 0) Moved (1024 ∷ 0 ∷ 0 ∷ 0 ∷ rest 12) }
     ∷ []
 
 abbrev stepsOf : List Start → List Step

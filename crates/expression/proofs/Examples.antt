@@ -122,7 +122,7 @@ rows =
     -- 5 to 8 by a later command: bytes beside those that are commands; one operand missing, two; an operand of 10, first and second; equal ones
     ∷ row (opening ++ (0 ∷ [])) 32 32 0 0 (Refused 5 5)
     ∷ row (opening ++ (0x10 ∷ [])) 32 32 0 0 (Refused 5 5)
-    ∷ row (opening ++ (0x13 ∷ [])) 32 32 0 0 (Refused 5 5)
+    ∷ row (opening ++ (0x14 ∷ [])) 32 32 0 0 (Refused 5 5)
     ∷ row (opening ++ (0x22 ∷ [])) 32 32 0 0 (Refused 5 5)
     ∷ row (opening ++ (0x32 ∷ [])) 32 32 0 0 (Refused 5 5)
     ∷ row (opening ++ (0x40 ∷ [])) 32 32 0 0 (Refused 5 5)
@@ -168,6 +168,12 @@ rows =
     ∷ row (times 8 (0x11 ∷ 0 ∷ []) ++ times 55 (0x21 ∷ 0x11 ∷ 0 ∷ []) ++ (0x11 ∷ 0 ∷ [])) 32 32 0 0 (Refused 9 181)
     ∷ row (0x11 ∷ 0 ∷ times 62 (0x11 ∷ 0 ∷ 0x21 ∷ [])) 32 32 (2 ^ 62) 0 (passed 63 0 2)
     ∷ row (0x11 ∷ 0 ∷ times 63 (0x11 ∷ 0 ∷ 0x21 ∷ [])) 32 32 0 0 (Refused 9 188)
+    -- 02, Item 9: an external atom is read, assumed and counted as any other
+    ∷ row (0x13 ∷ 9 ∷ []) 32 32 1 0 (passed 1 0 1)
+    ∷ row (opening ++ (0x13 ∷ [])) 32 32 0 0 (Refused 6 5)
+    ∷ row (opening ++ (0x13 ∷ 10 ∷ [])) 32 32 0 0 (Refused 7 5)
+    ∷ row (0x13 ∷ 0 ∷ times 62 (0x11 ∷ 0 ∷ 0x21 ∷ [])) 32 32 0 (2 ^ 62) (passed 63 0 2)
+    ∷ row (0x13 ∷ 0 ∷ times 62 (0x11 ∷ 0 ∷ 0x21 ∷ []) ++ (0x13 ∷ 0 ∷ [])) 32 32 0 0 (Refused 9 188)
     ∷ []
 
 right : Row → Bool
@@ -193,6 +199,7 @@ twice = 0x11 ∷ 0 ∷ 0x11 ∷ 1 ∷ 0x21 ∷ 0x51 ∷ times 16 (0x21 ∷ []) +
 name-examples : (map (nameOf labelCount twice) (0 ∷ 1 ∷ 2 ∷ []) ≡ Nameless ∷ Named 23 ∷ Nameless ∷ [])
     × (map (λ s. nameOf labelCount s 0) (listed ∷ (opening ++ (0x51 ∷ [])) ∷ (opening ++ (0x11 ∷ 0 ∷ [])) ∷ times 4097 (0 ∷ []) ∷ []) ≡ Nameless ∷ naming.Refused 6 5 ∷ naming.Refused 12 7 ∷ naming.Refused 1 0 ∷ [])
     × (bytesNamed twice (nameOf labelCount twice 1) ≡ times 16 (0x61 ∷ []))
+    × (nameOf labelCount (0x13 ∷ 0 ∷ 0x51 ∷ times 16 (0x61 ∷ [])) 0 ≡ Named 3)
 unfolding times opening listed twice nameOf calledIn called calledFrom calledBy checkSheet overlongTest faultTest unjoinedTest countsOf faultPlace faultNumber isFaulty firstOf reading readFrom behind
     countFault counted effect noCounts readAt readCommand commandOf operandCount isCommand twoOperands oneOperand
-name-examples = (refl, refl, refl)
+name-examples = (refl, refl, refl, refl)

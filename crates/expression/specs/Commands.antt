@@ -1,10 +1,12 @@
--- One command from bytes (01, "The sheet"; 02, Item 1: 51), over K labels. Assumes nothing.
+-- One command from bytes (01, "The sheet"; 02, Item 1: 51, Item 9: 13), over K labels. Assumes nothing.
 use mathlib.Core.Bool.{Bool, cond, not, _&&_, _||_}
 use mathlib.Core.List.{List}
 use Prim.Native.Nat.{ℕ, _+_, _-_, _%_, _<_}
 use lib.Dec.{eqb, ltb, leb}
 use lib.ListN.{length, getD}
 use Rattle.expression.specs.declared.Kind.the-variants.{Head, Positive, Negative}
+use Rattle.expression.specs.declared.Role.{Role}
+use Rattle.expression.specs.declared.Role.the-variants.{Derived, External}
 use Rattle.expression.specs.declared.Command.{Command}
 use Rattle.expression.specs.declared.Command.the-variants.{Atom, Rule, Union, Relabel, Connect, Name}
 use Rattle.expression.specs.declared.Read.{Read}
@@ -12,9 +14,9 @@ use Rattle.expression.specs.declared.Read.the-variants.{Command as Got, 
 use Rattle.expression.specs.Limits.{nameLength}
 use Rattle.expression.specs.Refusals.{unknown, cut, group, same}
 
--- 11 g and 12 g; 31, 41, 42, 43 then i j
+-- 11 g, 12 g and 13 g; 31, 41, 42, 43 then i j
 unfoldable pub oneOperand : ℕ → Bool
-oneOperand b = eqb b 0x11 || eqb b 0x12
+oneOperand b = eqb b 0x11 || eqb b 0x12 || eqb b 0x13
 
 unfoldable pub twoOperands : ℕ → Bool
 twoOperands b = eqb b 0x31 || eqb b 0x41 || eqb b 0x42 || eqb b 0x43
@@ -33,16 +35,21 @@ operandCount b = cond (twoOperands b) 2 (cond (oneOperand b) 1 0)
 abbrev pub tailLength : ℕ → ℕ
 tailLength b = cond (isName b) nameLength (operandCount b)
 
+-- an atom of label x
+abbrev pub atomOf : Role → ℕ → Command
+atomOf r x = Atom (record { label = x; role = r })
+
 -- a command by its byte and operands
 unfoldable pub commandOf : ℕ → ℕ → ℕ → Command
 commandOf b x y =
-    cond (eqb b 0x11) (Atom x)
+    cond (eqb b 0x11) (atomOf Derived x)
     (cond (eqb b 0x12) (Rule x)
+    (cond (eqb b 0x13) (atomOf External x)
     (cond (eqb b 0x21) Union
     (cond (eqb b 0x31) (Relabel x y)
     (cond (eqb b 0x41) (Connect Head x y)
     (cond (eqb b 0x42) (Connect Positive x y)
-    (Connect Negative x y))))))
+    (Connect Negative x y)))))))
 
 -- where the bytes of a name begin, behind its command byte, in a word of 32 bits: an expression too long for that is refused by 1
 abbrev pub nameStart : ℕ → ℕ
@@ -64,7 +71,7 @@ readAt K s at = readCommand K at (length s - at) (getD s at 0) (getD s (at + 1) 
 
 -- the labels of a command are below K
 unfoldable pub Suits : ℕ → Command → Type 0
-Suits K (Atom g) = g < K
+Suits K (Atom a) = a .label < K
 Suits K (Rule g) = g < K
 Suits K Union = Unit {0}
 Suits K (Relabel i j) = (i < K) × (j < K)

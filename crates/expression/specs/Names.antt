@@ -6,6 +6,7 @@ use Prim.Native.Nat.{ℕ, _+_}
 use lib.Dec.{eqb}
 use lib.ListN.{take, drop}
 use Rattle.lists.specs.Lists.{All}
+use Rattle.expression.specs.declared.NewAtom.{NewAtom}
 use Rattle.expression.specs.declared.Command.{Command}
 use Rattle.expression.specs.declared.Command.the-variants.{Atom, Rule, Union, Relabel, Connect, Name}
 use Rattle.expression.specs.declared.Leaf.{Leaf}
@@ -93,10 +94,10 @@ NoLeafBy Pass = Unit {0}
 
 -- of these commands the last that brings a leaf brings atom c
 pub record Newest (c : ℕ) (cs : List Command) : Type 0 where
-  pub label : ℕ
+  pub atom : NewAtom
   pub earlier : List Command
   pub later : List Command
-  pub parts : cs ≡ earlier ++ (Atom label ∷ later)
+  pub parts : cs ≡ earlier ++ (Atom atom ∷ later)
   pub number : atomsIn earlier ≡ c
   pub noLeaf : All (λ d. NoLeafBy (effect d)) later
 

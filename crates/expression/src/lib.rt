@@ -10,9 +10,21 @@ pub enum Kind {
     Negative,
 }
 
+// Whether a rule must make an atom for it to be in an answer set, or none need (02, Item 9: granted).
+pub enum Role {
+    Derived,
+    External,
+}
+
+// What a command says of the atom that it brings.
+pub struct NewAtom {
+    pub label: u32,
+    pub role: Role,
+}
+
 // A name is where its bytes begin (02, Item 1), in a word of 32 bits, as labels are: an offset of 64 would make every command read longer and slower.
 pub enum Command {
-    Atom(u32),
+    Atom(NewAtom),
     Rule(u32),
     Union,
     Relabel(u32, u32),

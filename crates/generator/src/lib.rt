@@ -33,7 +33,7 @@ const TURNS: u64 = 36;
 // The command of a turn where the operands are so many. Six turns may have an atom and six a rule.
 fn command(turn: u64, x: u64, depth: u64) -> u8 {
     if depth < 1 {
-        return 0x11;
+        return atom(x / 256);
     }
     if is_union(turn, x, depth) {
         return 0x21;
@@ -63,9 +63,17 @@ fn leaf_or_link(turn: u64, x: u64) -> u8 {
         return link(x / 16);
     }
     match turn {
-        0 => 0x11,
+        0 => atom(x / 256),
         2 => 0x12,
         _ => link(x / 16),
+    }
+}
+
+// Once in four an external one (02, Item 9).
+fn atom(x: u64) -> u8 {
+    match x % 4 {
+        0 => 0x13,
+        _ => 0x11,
     }
 }
 
@@ -91,7 +99,7 @@ fn size(byte: u8) -> usize
 {
     match byte {
         0x21 => 1,
-        0x11 | 0x12 => 2,
+        0x11 | 0x12 | 0x13 => 2,
         _ => 3,
     }
 }
@@ -101,7 +109,7 @@ fn depth_after(byte: u8, depth: u64) -> u64
     ensures { λ r. ⌜ r ≤ depth + 1 ⌝ }
 {
     match byte {
-        0x11 | 0x12 => depth + 1,
+        0x11 | 0x12 | 0x13 => depth + 1,
         0x21 => less_one(depth),
         _ => depth,
     }

@@ -8,6 +8,7 @@ use native.Mathlib.Omega.{arith}
 use lib.ListN.{length}
 use Rattle.lists.specs.Sorted.{canon, insertAll, insert}
 use Rattle.labels.specs.Labels.{labelCount}
+use Rattle.expression.specs.declared.NewAtom.{NewAtom}
 use Rattle.semantics.specs.AnswerSets.{Assumptions}
 use Rattle.tables.specs.Algebras.{leaf, tables}
 use Rattle.tables.specs.Triples.{markF, markU}
@@ -31,7 +32,7 @@ use Rattle.leaves.proofs.Atoms.{leaf-entries}
 same-entry : {x y : Pair} {u v : Value} → x ≡ y → u ≡ v → _≡_ {A = Entry} (record { item = x; value = u }) (record { item = y; value = v })
 same-entry e f = λ i. record { item = e i; value = f i }
 
-module _ (kind : Tables) (x : Atom) (g : ℕ) where
+module _ (kind : Tables) (x : Atom) (g : NewAtom) where
   -- the entry of an atom that is out, where it may be
   abbrev pub absents : List Entry
   absents = cond (x .«may_be_out») (absentEntry kind x g ∷ []) []
@@ -43,7 +44,7 @@ module _ (kind : Tables) (x : Atom) (g : ℕ) where
       append-assoc (cond (x .«may_be_in») (presentEntry kind x g ∷ []) []) absents rest
       ∙ ap {B = List Entry} (λ (y : Entry). cond (x .«may_be_in») (y ∷ []) [] ++ (absents ++ rest)) (same-entry (sym e) refl)
 
-  pub absent-next : (row : List ℕ) → pairOf row ≡ markF labelCount g ∷ [] → absents ≡ cond (x .«may_be_out») (entryOf row (x .«value_out») ∷ []) []
+  pub absent-next : (row : List ℕ) → pairOf row ≡ markF labelCount (g .label) ∷ [] → absents ≡ cond (x .«may_be_out») (entryOf row (x .«value_out») ∷ []) []
   absent-next row e = ap {B = List Entry} (λ (y : Entry). cond (x .«may_be_out») (y ∷ []) []) (same-entry (sym (e ∙ absent-is kind 0 g)) refl)
 
 module _ (kind : Tables) (carry : Carry) (g : ℕ) where
@@ -71,12 +72,12 @@ no-rows w p area e = rows-of w p 0 [] area e refl (omega arith) tt .0
 
 -- ---- the table of all candidates of a leaf is the definition's
 
-leaf-operation : (kind : Tables) (carry : Carry) (o : Assumptions) (c g : ℕ) → tableOfAll carry (leaf (tableAlgebra kind carry) o c g) ≡ tables (tableAlgebra kind carry) o .atomOp c g
+leaf-operation : (kind : Tables) (carry : Carry) (o : Assumptions) (c : ℕ) (g : NewAtom) → tableOfAll carry (leaf (tableAlgebra kind carry) o c g) ≡ tables (tableAlgebra kind carry) o .atomOp c g
 unfolding tableOfAll entryAlgebra tableAlgebra algebraOf valued flat pairs tables
 leaf-operation Plain carry o c g = refl
 leaf-operation Pairs carry o c g = refl
 
-pub atom-operation : (kind : Tables) (carry : Carry) (o : Assumptions) (c g : ℕ) → tableOfAll carry (leafEntries kind (atomAt carry o c) g) ≡ tables (tableAlgebra kind carry) o .atomOp c g
+pub atom-operation : (kind : Tables) (carry : Carry) (o : Assumptions) (c : ℕ) (g : NewAtom) → tableOfAll carry (leafEntries kind (atomAt carry o c) g) ≡ tables (tableAlgebra kind carry) o .atomOp c g
 atom-operation kind carry o c g = ap (tableOfAll carry) (leaf-entries kind carry o c g) ∙ leaf-operation kind carry o c g
 
 pub rule-operation : (kind : Tables) (carry : Carry) (o : Assumptions) (g : ℕ) → tableOfAll carry (tableAlgebra kind carry .unmet g ∷ []) ≡ tables (tableAlgebra kind carry) o .ruleOp g

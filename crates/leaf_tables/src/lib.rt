@@ -1,5 +1,6 @@
 // The tables of the leaves of an expression: of an atom under assumptions, and of a rule.
 use entries::Carry;
+use expression::NewAtom;
 use leaves::Atom;
 use leaves::NO_VALUE;
 use leaves::Tables;
@@ -44,7 +45,7 @@ fn put_if(
     m
 }
 
-// The entries of an atom of label g put into a new table at word `to`: the present one where it may be in, the absent one where it may be out. The
+// The entries of an atom put into a new table at word `to`: the present one where it may be in, the absent one where it may be out. The
 // answer is as making::put_entry's.
 fn put_leaf(
     ws: &mut [u32],
@@ -57,13 +58,13 @@ fn put_leaf(
     p: usize,
     to: usize,
     atom: Atom,
-    g: u32,
+    new: NewAtom,
 ) -> usize
-    requires { ⌜ Wide tables w × (p ≤ 1024) × (length (now row) ≡ w) × (g < labelCount) × KeepsBoth carry atom × (to + p * w ≤ length (now ws)) ⌝ }
-    requires { ⌜ Next carry w p to 0 (leafEntries tables atom g) (now ws) (now index) (now vals) ⌝ }
-    ensures { λ r. ⌜ Puts carry w p to 0 (leafEntries tables atom g) r (now (ws .entry)) (now (index .entry)) (now (vals .entry)) (now (ws .exit)) (now (index .exit)) (now (vals .exit)) ⌝ }
+    requires { ⌜ Wide tables w × (p ≤ 1024) × (length (now row) ≡ w) × (new .label < labelCount) × KeepsBoth carry atom × (to + p * w ≤ length (now ws)) ⌝ }
+    requires { ⌜ Next carry w p to 0 (leafEntries tables atom new) (now ws) (now index) (now vals) ⌝ }
+    ensures { λ r. ⌜ Puts carry w p to 0 (leafEntries tables atom new) r (now (ws .entry)) (now (index .entry)) (now (vals .entry)) (now (ws .exit)) (now (index .exit)) (now (vals .exit)) ⌝ }
 {
-    write_present(row, tables, g);
+    write_present(row, tables, new);
     let m = put_if(
         ws,
         row,
@@ -77,7 +78,7 @@ fn put_leaf(
         atom.value_in,
         atom.may_be_in,
     );
-    write_absent(row, g);
+    write_absent(row, new.label);
     put_if(
         ws,
         row,
@@ -93,7 +94,7 @@ fn put_leaf(
     )
 }
 
-// The table of an atom of label g, put at word `at`, where a table of no rows is; made in the words from `to` on. The answer is how many rows it has;
+// The table of an atom, put at word `at`, where a table of no rows is; made in the words from `to` on. The answer is how many rows it has;
 // p + 1 where there are more than p, and nothing changes then.
 pub fn atom_table(
     ws: &mut [u32],
@@ -107,15 +108,15 @@ pub fn atom_table(
     at: usize,
     to: usize,
     atom: Atom,
-    g: u32,
+    new: NewAtom,
 ) -> usize
-    requires { ⌜ Wide tables w × (p ≤ 1024) × (length (now row) ≡ w) × (g < labelCount) × KeepsBoth carry atom ⌝ }
+    requires { ⌜ Wide tables w × (p ≤ 1024) × (length (now row) ≡ w) × (new .label < labelCount) × KeepsBoth carry atom ⌝ }
     requires { ⌜ (at + p * w ≤ to) × (to + p * w ≤ length (now ws)) ⌝ }
     requires { ⌜ (part at (p * w) (now ws) ≡ zeros (p * w)) × (part to (p * w) (now ws) ≡ zeros (p * w)) × (p ≤ length (now index)) × Kept carry p 0 (now vals) ⌝ }
-    ensures { λ r. ⌜ Finished carry w p at (leafEntries tables atom g) r (now (ws .entry)) (now (ws .entry)) (now (ws .exit)) (now (vals .exit)) ⌝ }
+    ensures { λ r. ⌜ Finished carry w p at (leafEntries tables atom new) r (now (ws .entry)) (now (ws .entry)) (now (ws .exit)) (now (vals .exit)) ⌝ }
     ensures { λ r. ⌜ r ≤ p + 1 ⌝ }
 {
-    let r = put_leaf(ws, row, index, vals, tables, carry, w, p, to, atom, g);
+    let r = put_leaf(ws, row, index, vals, tables, carry, w, p, to, atom, new);
     making::settle(ws, row, index, w, p, r, 0, at, to);
     r
 }

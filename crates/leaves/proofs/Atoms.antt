@@ -3,6 +3,7 @@ use mathlib.Core.Path.{_≡_, refl, ap₂}
 use mathlib.Core.Bool.{Bool, true, false, cond, not}
 use mathlib.Core.List.{List, [], _∷_, _++_}
 use Prim.Native.Nat.{ℕ}
+use Rattle.expression.specs.declared.NewAtom.{NewAtom}
 use Rattle.semantics.specs.AnswerSets.{Assumptions}
 use Rattle.tables.specs.Algebras.{leaf}
 use Rattle.tables.specs.Definitions.{pairs, flat}
@@ -21,7 +22,7 @@ cond-not true x = refl
 cond-not false x = refl
 
 -- a leaf has no other entries
-pub leaf-entries : (kind : Tables) (carry : Carry) (o : Assumptions) (c g : ℕ) → leafEntries kind (atomAt carry o c) g ≡ leaf (tableAlgebra kind carry) o c g
+pub leaf-entries : (kind : Tables) (carry : Carry) (o : Assumptions) (c : ℕ) (g : NewAtom) → leafEntries kind (atomAt carry o c) g ≡ leaf (tableAlgebra kind carry) o c g
 unfolding leafEntries atomAt leaf tableAlgebra algebraOf valued pairs flat
 leaf-entries Plain carry o c g = ap₂ {C = List Entry} _++_ (cond-not (o .falses c) _) (cond-not (o .trues c) _)
 leaf-entries Pairs carry o c g = ap₂ {C = List Entry} _++_ (cond-not (o .falses c) _) (cond-not (o .trues c) _)

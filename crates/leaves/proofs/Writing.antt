@@ -7,6 +7,8 @@ use native.Mathlib.Omega.{arith}
 use lib.ListN.{length, set}
 use lib.Pow.{shl-exact}
 use Rattle.labels.specs.Labels.{labelCount}
+use Rattle.expression.specs.declared.Role.the-variants.{Derived, External}
+use Rattle.expression.specs.declared.NewAtom.{NewAtom}
 use Rattle.tables.specs.Triples.{markT, markF, markU}
 use Rattle.tables.specs.Definitions.{pairs, flat}
 use Rattle.values.specs.Values.{noValue}
@@ -55,19 +57,23 @@ pairs-three Plain w e l = let q : _≡_ {A = ℕ} 0 1 = cc in absurd (omega arit
 pairs-three Pairs w e l = l
 
 -- what an atom that is in, one that is out, and a rule are
-module _ (tables : Tables) (c g : ℕ) where
-  pub plain-present : tables ≡ Plain → 2 ^ g ∷ [] ≡ algebraOf tables labelCount .present c g
+module _ (tables : Tables) (c : ℕ) (a : NewAtom) where
+  pub plain-present : tables ≡ Plain → 2 ^ (a .label) ∷ [] ≡ algebraOf tables labelCount .present c a
   unfolding algebraOf flat markT
   plain-present e = rw e
 
-  pub pairs-present : tables ≡ Pairs → 2 ^ g ∷ 2 ^ (labelCount + g) ∷ [] ≡ algebraOf tables labelCount .present c g
+  pub derived-present : tables ≡ Pairs → a .role ≡ Derived → 2 ^ (a .label) ∷ 2 ^ (labelCount + a .label) ∷ [] ≡ algebraOf tables labelCount .present c a
   unfolding algebraOf pairs markT markF
-  pairs-present e = rw e
+  derived-present e r = rw (e, r)
 
-pub absent-is : (tables : Tables) (c g : ℕ) → markF labelCount g ∷ [] ≡ algebraOf tables labelCount .absent c g
+  pub external-present : tables ≡ Pairs → a .role ≡ External → 2 ^ (a .label) ∷ [] ≡ algebraOf tables labelCount .present c a
+  unfolding algebraOf pairs markT
+  external-present e r = rw (e, r)
+
+pub absent-is : (tables : Tables) (c : ℕ) (a : NewAtom) → markF labelCount (a .label) ∷ [] ≡ algebraOf tables labelCount .absent c a
 unfolding algebraOf flat pairs
-absent-is Plain c g = refl
-absent-is Pairs c g = refl
+absent-is Plain c a = refl
+absent-is Pairs c a = refl
 
 pub unmet-is : (tables : Tables) (g : ℕ) → markU labelCount g ∷ [] ≡ algebraOf tables labelCount .unmet g
 unfolding algebraOf flat pairs

@@ -4,6 +4,7 @@ use mathlib.Core.Bool.{cond, not}
 use mathlib.Core.List.{List, [], _∷_, _++_}
 use Prim.Native.Nat.{ℕ, _≤_}
 use Rattle.labels.specs.Labels.{labelCount}
+use Rattle.expression.specs.declared.NewAtom.{NewAtom}
 use Rattle.semantics.specs.AnswerSets.{Assumptions}
 use Rattle.tables.specs.Algebras.{Algebra}
 use Rattle.tables.specs.Definitions.{Pair, pairs, flat}
@@ -31,16 +32,16 @@ atomAt carry o c = record { «may_be_in» = not (o .falses c); «may_be_out» = 
 abbrev pub Resolved : Carry → Atom → Type 0
 Resolved carry x = (o : Assumptions) × (c : ℕ) × (x ≡ atomAt carry o c)
 
--- its entries of label g, in and out: the pair goes by the label alone, so any number will do
-abbrev pub presentEntry : Tables → Atom → ℕ → Entry
-presentEntry tables x g = record { item = algebraOf tables labelCount .present 0 g; value = x .«value_in» }
+-- its entries, in and out: the pair goes by label and role alone, so any number will do
+abbrev pub presentEntry : Tables → Atom → NewAtom → Entry
+presentEntry tables x a = record { item = algebraOf tables labelCount .present 0 a; value = x .«value_in» }
 
-abbrev pub absentEntry : Tables → Atom → ℕ → Entry
-absentEntry tables x g = record { item = algebraOf tables labelCount .absent 0 g; value = x .«value_out» }
+abbrev pub absentEntry : Tables → Atom → NewAtom → Entry
+absentEntry tables x a = record { item = algebraOf tables labelCount .absent 0 a; value = x .«value_out» }
 
 -- those that it has
-unfoldable pub leafEntries : Tables → Atom → ℕ → List Entry
-leafEntries tables x g = cond (x .«may_be_in») (presentEntry tables x g ∷ []) [] ++ cond (x .«may_be_out») (absentEntry tables x g ∷ []) []
+unfoldable pub leafEntries : Tables → Atom → NewAtom → List Entry
+leafEntries tables x a = cond (x .«may_be_in») (presentEntry tables x a ∷ []) [] ++ cond (x .«may_be_out») (absentEntry tables x a ∷ []) []
 
 -- words keep both of its values
 abbrev pub KeepsBoth : Carry → Atom → Type 0

@@ -1,5 +1,7 @@
 // The leaves of an expression: the next atom, resolved under assumptions, and the rows of an atom that is in or out, and of a rule.
 use entries::Carry;
+use expression::NewAtom;
+use expression::Role;
 use expression::limits::ATOM_LIMIT;
 use values::Value;
 ghost use mathlib.Core.Path.{_≡_};
@@ -22,7 +24,7 @@ pub enum Tables {
     Pairs,
 }
 
-// The next atom, resolved: whether it may be in and may be out under the assumptions, and its value in and out. Its label stands in the command.
+// The next atom, resolved: whether it may be in and may be out under the assumptions, and its value in and out. Its label and role stand in the command.
 pub struct Atom {
     pub may_be_in: bool,
     pub may_be_out: bool,
@@ -117,19 +119,27 @@ fn write_subset(row: &mut [u32], q: u32, s: u32)
     row[2] = s;
 }
 
-// The row of an atom of label g that is in. In tables of pairs its subset leaves it out.
-pub fn write_present(row: &mut [u32], tables: Tables, g: u32)
-    requires { ⌜ (g < labelCount) × Wide tables (length (now row)) ⌝ }
-    ensures { λ _. ⌜ Readable (now (row .exit)) × ((c : ℕ) → pairOf (now (row .exit)) ≡ algebraOf tables labelCount .present c g) ⌝ }
+// The row of an atom that is in. In tables of pairs its subset leaves it out; an external one has none.
+pub fn write_present(row: &mut [u32], tables: Tables, a: NewAtom)
+    requires { ⌜ (a .label < labelCount) × Wide tables (length (now row)) ⌝ }
+    ensures { λ _. ⌜ Readable (now (row .exit)) × ((c : ℕ) → pairOf (now (row .exit)) ≡ algebraOf tables labelCount .present c a) ⌝ }
 {
-    let q = mark(g);
+    let q = mark(a.label);
     match tables {
         Tables::Plain => {
             write_triple(row, q);
         }
         Tables::Pairs => {
-            let s = mark(LABELS + g);
-            write_subset(row, q, s);
+            let role = a.role;
+            match role {
+                Role::Derived => {
+                    let s = mark(LABELS + a.label);
+                    write_subset(row, q, s);
+                }
+                Role::External => {
+                    write_triple(row, q);
+                }
+            }
         }
     }
 }

@@ -1,11 +1,11 @@
--- A rule or the pins, judged test by test. Assumes nothing.
+-- A rule, a smaller plan or the pins, judged test by test. Assumes nothing.
 use mathlib.Core.Path.{_≡_, refl}
 use mathlib.Core.Bool.{Bool, true, false, not}
 use Prim.Native.Nat.{ℕ}
 use lib.Bits.{bitAnd}
 use lib.Dec.{eqb}
 use borrow.Author.Tests.{eq-eqb, ne-eqb}
-use Rattle.meaning.specs.Meaning.{hasSome, lacksSome, isMet, obeysPins}
+use Rattle.meaning.specs.Meaning.{hasSome, lacksSome, isMet, isSmaller, obeysPins}
 
 module _ (head positive negative plan smaller : ℕ) where
   pub met-by-negative : (bitAnd negative plan ≡ 0 → ⊥) → true ≡ isMet head positive negative plan smaller
@@ -20,6 +20,20 @@ module _ (head positive negative plan smaller : ℕ) where
     pub met-by-head : bitAnd positive smaller ≡ positive → not (eqb (bitAnd head smaller) 0) ≡ isMet head positive negative plan smaller
     unfolding isMet hasSome lacksSome
     met-by-head h = rw (eq-eqb (bitAnd negative plan) 0 none, eq-eqb (bitAnd positive smaller) positive h)
+
+module _ (granted plan smaller : ℕ) where
+  pub not-subset : (bitAnd smaller plan ≡ smaller → ⊥) → false ≡ isSmaller granted plan smaller
+  unfolding isSmaller lacksSome
+  not-subset h = rw (ne-eqb (bitAnd smaller plan) smaller h)
+
+  module _ (subset : bitAnd smaller plan ≡ smaller) where
+    pub not-proper : bitAnd plan smaller ≡ plan → false ≡ isSmaller granted plan smaller
+    unfolding isSmaller lacksSome
+    not-proper h = rw (eq-eqb (bitAnd smaller plan) smaller subset, eq-eqb (bitAnd plan smaller) plan h)
+
+    pub by-granted : (bitAnd plan smaller ≡ plan → ⊥) → eqb (bitAnd granted smaller) (bitAnd granted plan) ≡ isSmaller granted plan smaller
+    unfolding isSmaller lacksSome
+    by-granted h = rw (eq-eqb (bitAnd smaller plan) smaller subset, ne-eqb (bitAnd plan smaller) plan h)
 
 module _ (plan copies pinsIn pinsOut : ℕ) where
   pub not-of-copies : (bitAnd plan copies ≡ plan → ⊥) → false ≡ obeysPins plan copies pinsIn pinsOut

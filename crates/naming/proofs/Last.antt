@@ -10,6 +10,7 @@ use lib.Seq.{append-snoc}
 use borrow.Author.Tests.{eq-eqb, eqb-true}
 use Rattle.lists.specs.Lists.{All}
 use Rattle.lists.proofs.Members.{all-append, all-parts}
+use Rattle.expression.specs.declared.NewAtom.{NewAtom}
 use Rattle.expression.specs.declared.Command.{Command}
 use Rattle.expression.specs.declared.Command.the-variants.{Atom, Rule, Union, Relabel, Connect, Name}
 use Rattle.expression.specs.declared.Counts.{Counts}
@@ -67,29 +68,29 @@ atoms-more [] d = omega arith
 atoms-more (b ∷ cs) d = let h = atoms-more cs d in omega arith
 
 module _ (c : ℕ) (cs : List Command) where
-  newest-atom : (g : ℕ) → atomsIn cs ≡ c → Newest c (cs ++ (Atom g ∷ []))
-  newest-atom g e = record { label = g; earlier = cs; later = []; parts = refl; number = e; noLeaf = tt }
+  newest-atom : (g : NewAtom) → atomsIn cs ≡ c → Newest c (cs ++ (Atom g ∷ []))
+  newest-atom g e = record { atom = g; earlier = cs; later = []; parts = refl; number = e; noLeaf = tt }
 
   newest-still : (d : Command) → NoLeafBy (effect d) → Newest c cs → Newest c (cs ++ (d ∷ []))
   newest-still d l h = record {
-    label = h .label;
+    atom = h .atom;
     earlier = h .earlier;
     later = h .later ++ (d ∷ []);
-    parts = ap (λ xs. xs ++ (d ∷ [])) (h .parts) ∙ append-assoc (h .earlier) (Atom (h .label) ∷ h .later) (d ∷ []);
+    parts = ap (λ xs. xs ++ (d ∷ [])) (h .parts) ∙ append-assoc (h .earlier) (Atom (h .atom) ∷ h .later) (d ∷ []);
     number = h .number;
     noLeaf = all-append _ (h .later) (d ∷ []) (h .noLeaf) (l, tt);
   }
 
   -- and no other way
-  newest-is : (d : Command) → Newest c (cs ++ (d ∷ [])) → ((g : ℕ) × (d ≡ Atom g) × (atomsIn cs ≡ c)) ⊎ (NoLeafBy (effect d) × Newest c cs)
-  newest-is d h = step (last-part cs d (h .earlier) (Atom (h .label)) (h .later) (h .parts))
+  newest-is : (d : Command) → Newest c (cs ++ (d ∷ [])) → ((g : NewAtom) × (d ≡ Atom g) × (atomsIn cs ≡ c)) ⊎ (NoLeafBy (effect d) × Newest c cs)
+  newest-is d h = step (last-part cs d (h .earlier) (Atom (h .atom)) (h .later) (h .parts))
     where
-      step : ((cs ≡ h .earlier) × (d ≡ Atom (h .label))) ⊎ Before (h .earlier) (Atom (h .label)) (h .later) cs d []
-          → ((g : ℕ) × (d ≡ Atom g) × (atomsIn cs ≡ c)) ⊎ (NoLeafBy (effect d) × Newest c cs)
-      step (inl (p, q)) = inl (h .label, q, ap atomsIn p ∙ h .number)
+      step : ((cs ≡ h .earlier) × (d ≡ Atom (h .atom))) ⊎ Before (h .earlier) (Atom (h .atom)) (h .later) cs d []
+          → ((g : NewAtom) × (d ≡ Atom g) × (atomsIn cs ≡ c)) ⊎ (NoLeafBy (effect d) × Newest c cs)
+      step (inl (p, q)) = inl (h .atom, q, ap atomsIn p ∙ h .number)
       step (inr (mid, p, q)) =
           let (others, l) = all-parts (λ x. NoLeafBy (effect x)) mid (d ∷ []) (subst (All (λ x. NoLeafBy (effect x))) q (h .noLeaf)) in
-          inr (l .0, record { label = h .label; earlier = h .earlier; later = mid; parts = p; number = h .number; noLeaf = others })
+          inr (l .0, record { atom = h .atom; earlier = h .earlier; later = mid; parts = p; number = h .number; noLeaf = others })
 
 -- b says whether the newest leaf is atom c
 abbrev Marks : ℕ → Bool → List Command → Type 0
@@ -100,7 +101,7 @@ marks-still : (c : ℕ) (b : Bool) (cs : List Command) (d : Command) → NoLeafB
 unfolding effect
 marks-still c b cs d l (f, h) = (λ e. newest-still c cs d l (f e), λ n. step (newest-is c cs d n))
   where
-    step : ((g : ℕ) × (d ≡ Atom g) × (atomsIn cs ≡ c)) ⊎ (NoLeafBy (effect d) × Newest c cs) → b ≡ true
+    step : ((g : NewAtom) × (d ≡ Atom g) × (atomsIn cs ≡ c)) ⊎ (NoLeafBy (effect d) × Newest c cs) → b ≡ true
     step (inl (g, p, e)) = absurd (subst (λ x. NoLeafBy (effect x)) p l)
     step (inr (l′, n)) = h n
 
@@ -108,12 +109,12 @@ marks-more : (c : ℕ) (b : Bool) (cs : List Command) (d : Command) → Marks c 
 unfolding effect
 marks-more c b cs (Atom g) h = (λ e. newest-atom c cs g (eqb-true (atomsIn cs) c e), λ n. step (newest-is c cs (Atom g) n))
   where
-    step : ((i : ℕ) × (Atom g ≡ Atom i) × (atomsIn cs ≡ c)) ⊎ (⊥ × Newest c cs) → eqb (atomsIn cs) c ≡ true
+    step : ((i : NewAtom) × (Atom g ≡ Atom i) × (atomsIn cs ≡ c)) ⊎ (⊥ × Newest c cs) → eqb (atomsIn cs) c ≡ true
     step (inl (i, p, e)) = eq-eqb (atomsIn cs) c e
     step (inr (l, n)) = absurd l
 marks-more c b cs (Rule g) h = (λ e. absurd (false≢true e), λ n. step (newest-is c cs (Rule g) n))
   where
-    step : ((i : ℕ) × (Rule g ≡ Atom i) × (atomsIn cs ≡ c)) ⊎ (⊥ × Newest c cs) → false ≡ true
+    step : ((i : NewAtom) × (Rule g ≡ Atom i) × (atomsIn cs ≡ c)) ⊎ (⊥ × Newest c cs) → false ≡ true
     step (inl (i, p, e)) = let z : _≡_ {A = ℕ} 0 1 = cc in absurd (omega arith)
     step (inr (l, n)) = absurd l
 marks-more c b cs Union h = marks-still c b cs Union tt h
@@ -174,7 +175,7 @@ from-calls c b r done (d ∷ cs) h k =
 called-calls : (c : ℕ) (cs : List Command) → Calls c cs (called c cs)
 unfolding called atomsIn
 called-calls c cs =
-    from-calls c false Nameless [] cs (λ e. absurd (false≢true e), λ n. absurd (no-part (n .earlier) (Atom (n .label)) (n .later) (n .parts)))
+    from-calls c false Nameless [] cs (λ e. absurd (false≢true e), λ n. absurd (no-part (n .earlier) (Atom (n .atom)) (n .later) (n .parts)))
     (λ at earlier later g. no-part earlier (Name at) later (g .parts))
 
 -- there is one last name

@@ -16,7 +16,7 @@ use Rattle.expression.specs.declared.Read.the-variants.{Command as Got, Fault}
 use Rattle.expression.specs.Limits.{nameLength}
 use Rattle.expression.specs.Refusals.{unknown, cut, group, same}
 use Rattle.expression.specs.Commands.{operandCount, nameStart, commandOf, readCommand, readAt}
-use Rattle.expression.proofs.Commands.{few-operands, union-read, name-read, unknown-read, cut-read, leaf-read, pair-read, read-ends}
+use Rattle.expression.proofs.Commands.{few-operands, operands-tail, union-read, name-read, unknown-read, cut-read, leaf-read, pair-read, read-ends}
 use Rattle.naming.specs.Unnamed.{unlessName}
 
 -- ---- names and the others
@@ -84,7 +84,7 @@ module _ (K b at n x y at′ n′ x′ y′ : ℕ) (c : Command) (next : ℕ) (r
           leaf-read K at′ n′ b x′ y′ h (omega arith) ∙ rw (f, e) (ends (commandOf b x 0) 2 q)
 
       step : (t : Bool) → ltb 1 n ≡ t → Same
-      step false e = let q = sym (cut-read K at n b x y (omega arith) (omega (arith, ltb-false 1 n e))) ∙ read in let z : _≡_ {A = ℕ} 0 1 = cc in absurd (omega arith)
+      step false e = let t = operands-tail b (omega arith) in let q = sym (cut-read K at n b x y (omega arith) (omega (arith, ltb-false 1 n e))) ∙ read in let z : _≡_ {A = ℕ} 0 1 = cc in absurd (omega arith)
       step true e = labels (leb K x) refl (sym (leaf-read K at n b x y h (ltb-true 1 n e)) ∙ read)
 
   pair-moved : 2 ≤ operandCount b → Same
@@ -100,7 +100,7 @@ module _ (K b at n x y at′ n′ x′ y′ : ℕ) (c : Command) (next : ℕ) (r
           pair-read K at′ n′ b x′ y′ h (omega (arith, few-operands b)) ∙ rw (g, i, e, f) (ends (commandOf b x y) 3 r)
 
       step : (t : Bool) → ltb (operandCount b) n ≡ t → Same
-      step false e = let q = sym (cut-read K at n b x y (omega arith) (omega (arith, ltb-false (operandCount b) n e))) ∙ read in let z : _≡_ {A = ℕ} 0 1 = cc in absurd (omega arith)
+      step false e = let t = operands-tail b (omega arith) in let q = sym (cut-read K at n b x y (omega arith) (omega (arith, ltb-false (operandCount b) n e))) ∙ read in let z : _≡_ {A = ℕ} 0 1 = cc in absurd (omega arith)
       step true e = labels (leb K x || leb K y) (eqb x y) refl refl (sym (pair-read K at n b x y h (ltb-true (operandCount b) n e)) ∙ read)
 
   command-moved : Same

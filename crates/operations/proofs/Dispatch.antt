@@ -5,6 +5,7 @@ use Prim.Native.Nat.{ℕ, _+_, _≤_, _<_}
 use native.Mathlib.Omega.{arith}
 use lib.ListN.{length, length-map}
 use Rattle.labels.specs.Labels.{labelCount}
+use Rattle.expression.specs.declared.NewAtom.{NewAtom}
 use Rattle.expression.specs.declared.Command.{Command}
 use Rattle.expression.specs.declared.Command.the-variants.{Atom, Rule, Union, Relabel, Connect, Name}
 use Rattle.expression.specs.declared.Kind.{Kind}
@@ -49,7 +50,7 @@ module _ (kind : Tables) (carry : Carry) (o : Assumptions) (a : ℕ) where
   abbrev act-on : Command → List (List Entry) → List (List Entry)
   act-on c ts = act (tables (tableAlgebra kind carry) o) a c ts
 
-  pub atom-acts : {x : Leaf} → x ≡ atomAt carry o a → (g : ℕ) {c : Command} → c ≡ Atom g → (ts : List (List Entry)) → pushed (tableOfAll carry (leafEntries kind x g)) ts ≡ act-on c ts
+  pub atom-acts : {x : Leaf} → x ≡ atomAt carry o a → (g : NewAtom) {c : Command} → c ≡ Atom g → (ts : List (List Entry)) → pushed (tableOfAll carry (leafEntries kind x g)) ts ≡ act-on c ts
   unfolding act
   atom-acts h g e ts = rw (e, h) (ap {B = List (List Entry)} (λ t. t ∷ ts) (atom-operation kind carry o a g))
 
@@ -104,7 +105,7 @@ module _ (kind : Tables) (carry : Carry) (o : Assumptions) (a : ℕ) where
 -- ---- what each command meets
 
 module _ {c : Command} (d t : ℕ) where
-  pub atom-meets : {g : ℕ} → c ≡ Atom g → Suits labelCount c → Meets c d t → (g < labelCount) × (t + 1 < d)
+  pub atom-meets : {a : NewAtom} → c ≡ Atom a → Suits labelCount c → Meets c d t → (a .label < labelCount) × (t + 1 < d)
   unfolding Suits effect
   atom-meets e s m = let s' = rw e at s in let m' = rw e at m in (s', m' .1)
 

@@ -8,7 +8,9 @@ use lib.ListN.{length, length-map}
 use Rattle.lists.specs.Lists.{All}
 use Rattle.lists.specs.Sorted.{compareNumbers, Rising}
 use Rattle.lists.proofs.Members.{all-append}
+use Rattle.expression.specs.declared.NewAtom.{NewAtom}
 use Rattle.tables.specs.Definitions.{subsets, pairs, flat}
+use Rattle.tables.proofs.Subsets.{left-out-rising}
 use Rattle.values.specs.Values.{valued}
 use Rattle.rows.specs.Parts.{part, put}
 use Rattle.rows.specs.Rows.{tableOf}
@@ -42,17 +44,17 @@ where-so : (Q : Entry → Type 0) (b : Bool) (x : Entry) → Q x → All Q (cond
 where-so Q true x h = (h, tt)
 where-so Q false x h = tt
 
-present-filled : (kind : Tables) (x : Atom) (g : ℕ) → Filled (presentEntry kind x g) × Ordered (presentEntry kind x g)
+present-filled : (kind : Tables) (x : Atom) (g : NewAtom) → Filled (presentEntry kind x g) × Ordered (presentEntry kind x g)
 unfolding algebraOf pairs flat Rising
 present-filled Plain x g = (omega arith, tt)
-present-filled Pairs x g = (omega arith, (tt, tt))
+present-filled Pairs x g = (omega arith, left-out-rising (g .role) _)
 
-absent-filled : (kind : Tables) (x : Atom) (g : ℕ) → Filled (absentEntry kind x g) × Ordered (absentEntry kind x g)
+absent-filled : (kind : Tables) (x : Atom) (g : NewAtom) → Filled (absentEntry kind x g) × Ordered (absentEntry kind x g)
 unfolding algebraOf pairs flat Rising
 absent-filled Plain x g = (omega arith, tt)
 absent-filled Pairs x g = (omega arith, tt)
 
-module _ (kind : Tables) (x : Atom) (g : ℕ) where
+module _ (kind : Tables) (x : Atom) (g : NewAtom) where
   of-leaf : (Q : Entry → Type 0) → Q (presentEntry kind x g) → Q (absentEntry kind x g) → All Q (leafEntries kind x g)
   unfolding leafEntries
   of-leaf Q h k =

@@ -1,6 +1,7 @@
 // One command on the tables of a workspace.
 use entries::Carry;
 use expression::Command;
+use expression::NewAtom;
 use leaves::Atom;
 use leaves::Tables;
 use operands::unite_newest;
@@ -88,7 +89,7 @@ fn map_by(
     map_newest(ws, row, index, vals, carry, d, w, p, t, n, &ops)
 }
 
-// The table of an atom of label g comes on t tables in d areas.
+// The table of an atom comes on t tables in d areas.
 fn push_atom(
     ws: &mut [u32],
     row: &mut [u32],
@@ -101,11 +102,11 @@ fn push_atom(
     p: usize,
     t: usize,
     atom: Atom,
-    g: u32,
+    new: NewAtom,
 ) -> usize
-    requires { ⌜ Wide tables w × (p ≤ 1024) × (d ≤ areaCount) × (length (now row) ≡ w) × (p ≤ length (now index)) × (g < labelCount) × KeepsBoth carry atom ⌝ }
+    requires { ⌜ Wide tables w × (p ≤ 1024) × (d ≤ areaCount) × (length (now row) ≡ w) × (p ≤ length (now index)) × (new .label < labelCount) × KeepsBoth carry atom ⌝ }
     requires { ⌜ (t + 1 < d) × ((n : ℕ) × (m : ℕ) × Ready carry d w p t n m (now ws) (now vals)) ⌝ }
-    ensures { λ r. ⌜ ((n m : ℕ) → Acts carry d w p t n m (pushed (tableOfAll carry (leafEntries tables atom g))) r (now (ws .entry)) (now (vals .entry)) (now (ws .exit)) (now (vals .exit))) ⌝ }
+    ensures { λ r. ⌜ ((n m : ℕ) → Acts carry d w p t n m (pushed (tableOfAll carry (leafEntries tables atom new))) r (now (ws .entry)) (now (vals .entry)) (now (ws .exit)) (now (vals .exit))) ⌝ }
 {
     let area = p * w;
     let made = values_from(carry, p, d - 1);
@@ -122,7 +123,7 @@ fn push_atom(
         t * area,
         (d - 1) * area,
         atom,
-        g,
+        new,
     );
     if r <= p {
         workspace::move_values(vals, carry, d, p, t, r);
@@ -191,7 +192,7 @@ pub fn act(
     ensures { λ r. ⌜ ((o : Assumptions) (a : ℕ) → atom ≡ atomAt carry o a → Acts carry d w p t n m (act (tables (tableAlgebra kind carry) o) a c) r (now (ws .entry)) (now (vals .entry)) (now (ws .exit)) (now (vals .exit))) ⌝ }
 {
     match c {
-        Command::Atom(g) => push_atom(ws, row, index, vals, kind, carry, d, w, p, t, atom, g),
+        Command::Atom(new) => push_atom(ws, row, index, vals, kind, carry, d, w, p, t, atom, new),
         Command::Rule(g) => push_rule(ws, row, index, vals, kind, carry, d, w, p, t, g),
         Command::Union => unite_newest(ws, row, index, vals, carry, d, w, p, t, n, m),
         Command::Relabel(_, _) => map_by(ws, row, index, vals, carry, d, w, p, t, n, c),

@@ -1,6 +1,7 @@
 // Documents 01 and 02 by enumeration, from the meaning of the rules alone: what a small sheet says, its tables and its answers. For testing the engine
-// against; slow and simple. It shares with the engine the limits' and refusals' numbers and no function or definition of tables. What a rule and pins
-// mean is proved (crate meaning); all else here is proved to stay within bounds and to end, and is right as far as it is tried (crate trials).
+// against; slow and simple. It shares with the engine the limits' and refusals' numbers and no function or definition of tables. What a rule, a
+// smaller plan and pins mean is proved (crate meaning); all else here is proved to stay within bounds and to end, and is right as far as it is tried
+// (crate trials).
 pub mod answering;
 pub mod checking;
 pub mod naming;

@@ -43,7 +43,7 @@ fn last_name(s: &[u8], copy: u64) -> Answer {
 // How many copies there were when a copy came last; 0 where no copy came yet, or a rule behind it.
 fn newest_by(byte: u8, newest: u64, n: u64) -> u64 {
     match byte {
-        0x11 => n,
+        0x11 | 0x13 => n,
         0x12 => 0,
         _ => newest,
     }

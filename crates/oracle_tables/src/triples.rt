@@ -27,6 +27,11 @@ fn meets(p: Policy, k: u64, interpretation: u64, subset: u64) -> bool {
     )
 }
 
+// Whether it is a proper subset that agrees with an interpretation on every external atom (02, Item 9).
+pub fn is_smaller(p: Policy, interpretation: u64, subset: u64) -> bool {
+    meaning::is_smaller(p.external, interpretation, subset)
+}
+
 // The rules of the newest operand that it does not meet.
 fn unmet(p: Policy, interpretation: u64, subset: u64) -> u64 {
     let mut rules: u64 = 0;
@@ -55,11 +60,11 @@ pub fn is_model(p: Policy, interpretation: u64, subset: u64) -> bool {
     unmet(p, interpretation, subset) == 0
 }
 
-// Whether no proper subset of an interpretation is a model of its reduct. A proper subset is a lesser mask.
+// Whether nothing smaller than an interpretation is a model of its reduct. A proper subset is a lesser mask.
 pub fn is_least(p: Policy, interpretation: u64) -> bool {
     let mut j: u64 = 0;
     while j < interpretation {
-        if j & interpretation == j {
+        if is_smaller(p, interpretation, j) {
             if is_model(p, interpretation, j) {
                 return false;
             }

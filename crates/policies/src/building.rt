@@ -71,7 +71,7 @@ fn relabelled(m: Members, newest: u64, i: u64, j: u64) -> Members {
 // 9 to 11 for a command byte; 0 where all pass.
 pub fn fault_of(p: Policy, byte: u8) -> u64 {
     match byte {
-        0x11 => leaf_fault(p.depth, p.atoms.count, ATOM_LIMIT),
+        0x11 | 0x13 => leaf_fault(p.depth, p.atoms.count, ATOM_LIMIT),
         0x12 => leaf_fault(p.depth, p.rules.count, RULE_LIMIT),
         0x21 => operand_fault(p.depth, 2),
         _ => operand_fault(p.depth, 1),
@@ -100,6 +100,7 @@ pub fn apply(p: Policy, byte: u8, i: u64, j: u64) -> Policy {
     match byte {
         0x11 => add_atom(p, i),
         0x12 => add_rule(p, i),
+        0x13 => add_external(p, i),
         0x21 => unite(p),
         0x31 => relabel(p, i, j),
         0x51 => p,
@@ -120,6 +121,13 @@ fn deeper(p: Policy) -> Policy {
 fn add_atom(p: Policy, label: u64) -> Policy {
     let mut next = deeper(p);
     next.atoms = added(p.atoms, next.depth, label);
+    next
+}
+
+// An atom in every other respect (02, Item 9).
+fn add_external(p: Policy, label: u64) -> Policy {
+    let mut next = add_atom(p, label);
+    next.external = p.external | kept_bit(p.atoms.count);
     next
 }
 

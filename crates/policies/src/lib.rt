@@ -1,5 +1,5 @@
-// What the commands of a sheet build (01, "The sheet"), from the document alone: what the oracle enumerates. Proved to stay within bounds and to end;
-// right as far as it is tried.
+// What the commands of a sheet build (01, "The sheet"; 02, Item 9), from the documents alone: what the oracle enumerates. Proved to stay within bounds
+// and to end; right as far as it is tried.
 pub mod building;
 pub mod sets;
 
@@ -26,6 +26,8 @@ pub struct Policy {
     pub deepest: u64,
     pub atoms: Members,
     pub rules: Members,
+    // the external atoms (02: granted copies) among those kept, as a set
+    pub external: u64,
     // for each rule the three sets of atoms (01: head, needed, barring)
     pub heads: Sets,
     pub positives: Sets,
@@ -42,6 +44,7 @@ pub fn no_policy() -> Policy {
         deepest: 0,
         atoms: no_members(),
         rules: no_members(),
+        external: 0,
         heads: no_sets(),
         positives: no_sets(),
         negatives: no_sets(),

@@ -55,7 +55,7 @@ fn done(s: &[u8], p: Policy) -> Policy
 fn size(byte: u8) -> usize {
     match byte {
         0x21 => 1,
-        0x11 | 0x12 => 2,
+        0x11 | 0x12 | 0x13 => 2,
         0x31 | 0x41 | 0x42 | 0x43 => 3,
         0x51 => 17,
         _ => 0,

@@ -18,6 +18,9 @@ use Rattle.lists.proofs.Canon.{canon-is, canon-of, rising-canon}
 use Rattle.labels.specs.Sets.{has, without, replace}
 use Rattle.labels.proofs.Sets.{has-and, has-none}
 use Rattle.expression.specs.declared.Kind.{Kind}
+use Rattle.expression.specs.declared.Role.{Role}
+use Rattle.expression.specs.declared.Role.the-variants.{Derived, External}
+use Rattle.expression.specs.declared.NewAtom.{NewAtom}
 use Rattle.expression.specs.declared.Command.{Command}
 use Rattle.expression.specs.declared.Command.the-variants.{Atom, Rule, Union, Relabel, Connect, Name}
 use Rattle.expression.specs.Refusals.{subsetsFull, plansFull}
@@ -26,7 +29,8 @@ use Rattle.semantics.specs.Expressions.{act, uniteNewest, changeNewest}
 use Rattle.semantics.specs.AnswerSets.{Assumptions, byMasks}
 use Rattle.tables.specs.Algebras.{tables, leaf}
 use Rattle.tables.specs.Triples.{markT, markF, markU, relabelTriple, settles, connectTriple}
-use Rattle.tables.specs.Definitions.{Pair, ownTriple, subsets, unitePairs, mapPair, pairs}
+use Rattle.tables.specs.Definitions.{Pair, ownTriple, subsets, unitePairs, mapPair, leftOut, pairs}
+use Rattle.tables.proofs.Subsets.{left-out-rising}
 use Rattle.decisions.specs.Decisions.{pairsFault, newest}
 use Rattle.rows.specs.Rows.{Fit}
 use Rattle.records.proofs.Formed.{Formed}
@@ -146,23 +150,30 @@ module _ (K : ℕ) where
       some (x ∷ t) l = omega arith
 
   module _ (o : Assumptions) (apart : Consistent o) where
-    atom-shaped : (n g : ℕ) → g < K → Shaped (tables (pairs K) o .atomOp n g)
+    left-out-low : (r : Role) (s : ℕ) → Low s → All Low (leftOut r s)
+    left-out-low Derived s l = (l, tt)
+    left-out-low External s l = tt
+
+    atom-shaped : (n : ℕ) (a : NewAtom) → a .label < K → Shaped (tables (pairs K) o .atomOp n a)
     unfolding tables leaf pairs markT markF Consistent Rising
-    atom-shaped n g l = step (o .falses n) (o .trues n) refl refl
+    atom-shaped n a l = step (o .falses n) (o .trues n) refl refl
       where
+        g : ℕ
+        g = a .label
+
         T : Low (2 ^ g)
         T = pow-lt (omega arith)
 
         F : Low (2 ^ (K + g))
         F = pow-lt (omega arith)
 
-        P : Good (2 ^ g ∷ 2 ^ (K + g) ∷ [])
-        P = record { own = omega arith; ordered = (tt, tt); low = (T, (F, tt)) }
+        P : Good (2 ^ g ∷ leftOut (a .role) (2 ^ (K + g)))
+        P = record { own = omega arith; ordered = left-out-rising (a .role) _; low = (T, left-out-low (a .role) _ F) }
 
         N : Good (2 ^ (K + g) ∷ [])
         N = record { own = omega arith; ordered = tt; low = (F, tt) }
 
-        step : (b c : Bool) → o .falses n ≡ b → o .trues n ≡ c → Shaped (canon compareLists second (cond b [] ((2 ^ g ∷ 2 ^ (K + g) ∷ []) ∷ []) ++ cond c [] ((2 ^ (K + g) ∷ []) ∷ [])))
+        step : (b c : Bool) → o .falses n ≡ b → o .trues n ≡ c → Shaped (canon compareLists second (cond b [] ((2 ^ g ∷ leftOut (a .role) (2 ^ (K + g))) ∷ []) ++ cond c [] ((2 ^ (K + g) ∷ []) ∷ [])))
         step true true e f = absurd (apart n f e)
         step true false e f = canon-shaped _ (omega arith) (N, tt)
         step false true e f = canon-shaped _ (omega arith) (P, tt)

@@ -12,7 +12,7 @@ use Rattle.lists.proofs.Members.{some-of, some-is, some-append, all-at, all-of,
 use Rattle.expression.specs.declared.Kind.{Kind}
 use Rattle.expression.specs.declared.Kind.the-variants.{Head, Positive, Negative}
 use Rattle.semantics.specs.Expressions.{Expr, connect}
-use Rattle.semantics.specs.Programs.{Rule, atoms, labelled, extend, connectRule, rules, numbers}
+use Rattle.semantics.specs.Programs.{Rule, atoms, labelled, extend, connectRule, rules, numbers, externals}
 use Rattle.semantics.specs.AnswerSets.{Interpretation, Model, AnswerSet, satisfies, strip, reduct}
 
 -- ---- rules whose sets have the same members
@@ -137,7 +137,7 @@ module _ (k : Kind) (i j : ℕ) where
         (λ m. record { model = sym h ∙ m .model }, λ m. record { model = h ∙ m .model })
 
     pub answerSet-again : (p : Interpretation) → AnswerSet (connect k i j e) p ↔ AnswerSet e p
-    unfolding rules numbers
+    unfolding rules numbers externals
     answerSet-again p =
         let h = alike-model (connectRule k j (labelled i (atoms e))) p (rules e) alike in (
           λ m. record { model = sym h ∙ m .model; minimal = λ q s. sym (alike-reduct (connectRule k j (labelled i (atoms e))) p q (rules e) alike) ∙ m .minimal q s },

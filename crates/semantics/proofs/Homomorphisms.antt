@@ -3,12 +3,13 @@ use mathlib.Core.Path.{_≡_, refl, ap, ap₂, _∙_}
 use mathlib.Core.List.{List, [], _∷_, map}
 use Prim.Native.Nat.{ℕ}
 use Rattle.expression.specs.declared.Kind.{Kind}
+use Rattle.expression.specs.declared.NewAtom.{NewAtom}
 use Rattle.expression.specs.declared.Command.{Command}
 use Rattle.expression.specs.declared.Command.the-variants.{Atom, Rule, Union, Relabel, Connect, Name}
 use Rattle.semantics.specs.Expressions.{Expr, atom, rule, union, relabel, connect, Operations, fold, uniteNewest, changeNewest, act, trees}
 
 pub record Homomorphism {Y Z : Type 0} (B : Operations Y) (C : Operations Z) (h : Y → Z) : Type 0 where
-  pub atomOp : (c g : ℕ) → h (B .atomOp c g) ≡ C .atomOp c g
+  pub atomOp : (c : ℕ) (a : NewAtom) → h (B .atomOp c a) ≡ C .atomOp c a
   pub ruleOp : (g : ℕ) → h (B .ruleOp g) ≡ C .ruleOp g
   pub unionOp : (x y : Y) → h (B .unionOp x y) ≡ C .unionOp (h x) (h y)
   pub relabelOp : (i j : ℕ) (x : Y) → h (B .relabelOp i j x) ≡ C .relabelOp i j (h x)

@@ -7,8 +7,10 @@ use Prim.Native.Nat.{ℕ}
 use lib.Dec.{eqb}
 use Rattle.lists.specs.Lists.{some, keep}
 use Rattle.lists.proofs.Members.{listed, listed-is, not-listed, keep-of, keep-is}
+use Rattle.expression.specs.declared.Role.{Role}
+use Rattle.expression.specs.declared.Role.the-variants.{Derived, External}
 use Rattle.semantics.specs.Expressions.{Expr, atom, rule, union, relabel, connect}
-use Rattle.semantics.specs.Programs.{numbers}
+use Rattle.semantics.specs.Programs.{numbers, ifExternal, externals}
 use Rattle.semantics.specs.AnswerSets.{Interpretation, ProperSubset, Assumptions, Obeys, allObeying, ofList}
 
 -- ---- interpretations that agree, and two combined
@@ -221,3 +223,17 @@ smaller-agree a s = record {
   lost-had = s .lost-had;
   lost-gone = a (s .lost) (s .lost-in) ∙ s .lost-gone;
 }
+
+-- external atoms are atoms
+pub externals-in : (e : Expr) {c : ℕ} → List·Memᴰ c (externals e) → List·Memᴰ c (numbers e)
+unfolding externals numbers
+externals-in (atom x a) {c} m = step (a .role) m
+  where
+    step : (r : Role) → List·Memᴰ c (ifExternal r x) → List·Memᴰ c (x ∷ [])
+    step Derived n = absurd (List·Memᴰ·not-nil n)
+    step External n = n
+externals-in (rule g) m = m
+externals-in (union e f) m =
+    ⊎-elim (λ n. Memᴰ·append-left (numbers f) (externals-in e n)) (λ n. Memᴰ·append-right (numbers e) (externals-in f n)) (List·Memᴰ·append-cases (externals e) m)
+externals-in (relabel i j e) m = externals-in e m
+externals-in (connect k i j e) m = externals-in e m

@@ -10,14 +10,15 @@ use borrow.Author.Tests.{leb-false}
 use Rattle.lists.specs.Lists.{All}
 use Rattle.lists.proofs.Members.{or-neither}
 use Rattle.expression.specs.declared.Kind.the-variants.{Head, Positive, Negative}
+use Rattle.expression.specs.declared.Role.the-variants.{Derived, External}
 use Rattle.expression.specs.declared.Command.{Command}
-use Rattle.expression.specs.declared.Command.the-variants.{Atom, Rule, Union, Relabel, Connect, Name}
+use Rattle.expression.specs.declared.Command.the-variants.{Rule, Union, Relabel, Connect, Name}
 use Rattle.expression.specs.declared.Read.{Read}
 use Rattle.expression.specs.declared.Read.the-variants.{Command as Got, Fault}
 use Rattle.expression.specs.declared.Counts.{Counts}
 use Rattle.expression.specs.Limits.{atomLimit}
 use Rattle.expression.specs.Refusals.{unknown, cut, group, same}
-use Rattle.expression.specs.Commands.{oneOperand, twoOperands, isName, isCommand, tailLength, nameStart, commandOf, readCommand, readAt, Suits}
+use Rattle.expression.specs.Commands.{oneOperand, twoOperands, isName, isCommand, tailLength, nameStart, atomOf, commandOf, readCommand, readAt, Suits}
 use Rattle.expression.specs.Effects.{effect, operandsBy}
 use Rattle.expression.specs.Reading.{depthAfter, counted, countFault, Placed, Reading, faulty, whole, noCounts, behind, readFrom, reading}
 use Rattle.expression.proofs.Totals.{Limited, none-limited, counted-limited, passes-operands}
@@ -40,19 +41,20 @@ module _ (K b x y : ℕ) (low : ((oneOperand b || twoOperands b) && leb K x || t
 
   command-suits : (at : ℕ) → isCommand b ≡ true → Suits K (cond (isName b) (Name at) (commandOf b x y))
   unfolding commandOf Suits isCommand oneOperand twoOperands
-  command-suits at known = step (isName b) (eqb b 0x11) (eqb b 0x12) (eqb b 0x21) (eqb b 0x31) (eqb b 0x41) (eqb b 0x42) known labels-one labels-two
+  command-suits at known = step (isName b) (eqb b 0x11) (eqb b 0x12) (eqb b 0x13) (eqb b 0x21) (eqb b 0x31) (eqb b 0x41) (eqb b 0x42) known labels-one labels-two
     where
-      step : (a p q u m h n : Bool) → (u || a || (p || q) || (m || h || n || eqb b 0x43)) ≡ true
-          → ((p || q || (m || h || n || eqb b 0x43)) ≡ true → x < K) → ((m || h || n || eqb b 0x43) ≡ true → (x < K) × (y < K))
-          → Suits K (cond a (Name at) (cond p (Atom x) (cond q (Rule x) (cond u Union (cond m (Relabel x y) (cond h (Connect Head x y) (cond n (Connect Positive x y) (Connect Negative x y))))))))
-      step true p q u m h n k f g = tt
-      step false true q u m h n k f g = f refl
-      step false false true u m h n k f g = f refl
-      step false false false true m h n k f g = tt
-      step false false false false true h n k f g = g refl
-      step false false false false false true n k f g = g refl
-      step false false false false false false true k f g = g refl
-      step false false false false false false false k f g = g k
+      step : (a p q r u m h n : Bool) → (u || a || (p || q || r) || (m || h || n || eqb b 0x43)) ≡ true
+          → ((p || q || r || (m || h || n || eqb b 0x43)) ≡ true → x < K) → ((m || h || n || eqb b 0x43) ≡ true → (x < K) × (y < K))
+          → Suits K (cond a (Name at) (cond p (atomOf Derived x) (cond q (Rule x) (cond r (atomOf External x) (cond u Union (cond m (Relabel x y) (cond h (Connect Head x y) (cond n (Connect Positive x y) (Connect Negative x y)))))))))
+      step true p q r u m h n k f g = tt
+      step false true q r u m h n k f g = f refl
+      step false false true r u m h n k f g = f refl
+      step false false false true u m h n k f g = f refl
+      step false false false false true m h n k f g = tt
+      step false false false false false true h n k f g = g refl
+      step false false false false false false true n k f g = g refl
+      step false false false false false false false true k f g = g refl
+      step false false false false false false false false k f g = g k
 
 command-read : (K at n b x y : ℕ) (c : Command) (next : ℕ) → readCommand K at n b x y ≡ Got c next → Suits K c
 unfolding readCommand

@@ -27,7 +27,7 @@ actAll-fold B n (c ∷ cs) es = actAll-fold B (n + newAtoms c) cs (act trees n c
 
 -- all labels of a tree are below K
 unfoldable pub Fits : ℕ → Expr → Type 0
-Fits K (atom c g) = g < K
+Fits K (atom c a) = a .label < K
 Fits K (rule g) = g < K
 Fits K (union a b) = Fits K a × Fits K b
 Fits K (relabel i j e) = (i < K) × (j < K) × Fits K e

@@ -8,7 +8,7 @@ use lib.Dec.{eqb}
 use Rattle.lists.specs.Lists.{some, every}
 use Rattle.labels.specs.Sets.{has}
 use Rattle.semantics.specs.Expressions.{Expr}
-use Rattle.semantics.specs.Programs.{Rule, rules, numbers}
+use Rattle.semantics.specs.Programs.{Rule, rules, numbers, externals}
 
 -- 01: a plan. It says of each atom, by its number, whether it is in.
 abbrev pub Interpretation : Type 0
@@ -30,7 +30,7 @@ unfoldable pub reduct : Interpretation → List Rule → List Rule
 reduct p [] = []
 reduct p (r ∷ rs) = cond (some p (r .negative)) (reduct p rs) (strip r ∷ reduct p rs)
 
--- 01: strictly smaller: among the atoms xs, q is a proper subset of p
+-- 01: among the atoms xs, q is a proper subset of p
 pub record ProperSubset (xs : List ℕ) (q p : Interpretation) : Type 0 where
   pub within : (c : ℕ) → List·Memᴰ c xs → q c ≡ true → p c ≡ true
   pub lost : ℕ
@@ -38,13 +38,18 @@ pub record ProperSubset (xs : List ℕ) (q p : Interpretation) : Type 0 where
   pub lost-had : p lost ≡ true
   pub lost-gone : q lost ≡ false
 
+-- 02, Item 9: strictly smaller: a proper subset that agrees with p on every external atom; these are ys
+pub record Smaller (xs ys : List ℕ) (q p : Interpretation) : Type 0 where
+  pub subset : ProperSubset xs q p
+  pub agrees : (c : ℕ) → List·Memᴰ c ys → q c ≡ p c
+
 pub record Model (e : Expr) (p : Interpretation) : Type 0 where
   pub model : every (satisfies p) (rules e) ≡ true
 
 -- 01: a grounded plan: it meets every rule, and no strictly smaller plan meets every reduced rule
 pub record AnswerSet (e : Expr) (p : Interpretation) : Type 0 where
   pub model : every (satisfies p) (rules e) ≡ true
-  pub minimal : (q : Interpretation) → ProperSubset (numbers e) q p → every (satisfies q) (reduct p (rules e)) ≡ false
+  pub minimal : (q : Interpretation) → Smaller (numbers e) (externals e) q p → every (satisfies q) (reduct p (rules e)) ≡ false
 
 -- which atoms are assumed true and which false (01: pinned in, pinned out)
 pub record Assumptions : Type 0 where

@@ -2,13 +2,14 @@
 use mathlib.Core.List.{List, [], _∷_}
 use Prim.Native.Nat.{ℕ, _+_}
 use Rattle.expression.specs.declared.Kind.{Kind}
+use Rattle.expression.specs.declared.NewAtom.{NewAtom}
 use Rattle.expression.specs.declared.Command.{Command}
 use Rattle.expression.specs.declared.Command.the-variants.{Atom, Rule, Union, Relabel, Connect, Name}
 use Rattle.expression.specs.Reading.{newAtoms}
 
--- 01: a part. An atom with its number and its label; a rule with its label; two parts joined; a label moved; atoms of one label linked to rules of another
+-- 01: a part. An atom with its number, label and role; a rule with its label; two parts joined; a label moved; atoms of one label linked to rules of another
 pub data Expr : Type 0 where
-  atom : ℕ → ℕ → Expr
+  atom : ℕ → NewAtom → Expr
   rule : ℕ → Expr
   union : Expr → Expr → Expr
   relabel : ℕ → ℕ → Expr → Expr
@@ -16,7 +17,7 @@ pub data Expr : Type 0 where
 
 -- the five operations, in any type that has them
 pub record Operations (Y : Type 0) : Type 0 where
-  pub atomOp : ℕ → ℕ → Y
+  pub atomOp : ℕ → NewAtom → Y
   pub ruleOp : ℕ → Y
   pub unionOp : Y → Y → Y
   pub relabelOp : ℕ → ℕ → Y → Y
@@ -24,7 +25,7 @@ pub record Operations (Y : Type 0) : Type 0 where
 
 -- what they make of a tree
 unfoldable pub fold : {Y : Type 0} → Operations Y → Expr → Y
-fold B (atom c g) = B .atomOp c g
+fold B (atom c a) = B .atomOp c a
 fold B (rule g) = B .ruleOp g
 fold B (union a b) = B .unionOp (fold B a) (fold B b)
 fold B (relabel i j e) = B .relabelOp i j (fold B e)
@@ -44,7 +45,7 @@ module _ {Y : Type 0} where
 
   -- what they make of a command on a stack, the newest first, where n is the number of the next atom
   unfoldable pub act : Operations Y → ℕ → Command → List Y → List Y
-  act B n (Atom g) ys = B .atomOp n g ∷ ys
+  act B n (Atom a) ys = B .atomOp n a ∷ ys
   act B n (Rule g) ys = B .ruleOp g ∷ ys
   act B n Union ys = uniteNewest (B .unionOp) ys
   act B n (Relabel i j) ys = changeNewest (B .relabelOp i j) ys

@@ -6,6 +6,8 @@ use lib.Dec.{eqb}
 use Rattle.labels.specs.Labels.{rename}
 use Rattle.expression.specs.declared.Kind.{Kind}
 use Rattle.expression.specs.declared.Kind.the-variants.{Head, Positive, Negative}
+use Rattle.expression.specs.declared.Role.{Role}
+use Rattle.expression.specs.declared.Role.the-variants.{Derived, External}
 use Rattle.semantics.specs.Expressions.{Expr, atom, rule, union, relabel, connect}
 
 pub record Atom : Type 0 where
@@ -26,7 +28,7 @@ unfoldable pub relabelRule : ℕ → ℕ → Rule → Rule
 relabelRule i j r = record { label = rename i j (r .label); head = r .head; positive = r .positive; negative = r .negative }
 
 unfoldable pub atoms : Expr → List Atom
-atoms (atom c g) = record { number = c; label = g } ∷ []
+atoms (atom c a) = record { number = c; label = a .label } ∷ []
 atoms (rule g) = []
 atoms (union a b) = atoms a ++ atoms b
 atoms (relabel i j e) = map (relabelAtom i j) (atoms e)
@@ -61,3 +63,15 @@ numbers (rule g) = []
 numbers (union a b) = numbers a ++ numbers b
 numbers (relabel i j e) = numbers e
 numbers (connect k i j e) = numbers e
+
+-- 02, Item 9: the numbers of the external atoms (granted copies)
+abbrev pub ifExternal : Role → ℕ → List ℕ
+ifExternal Derived c = []
+ifExternal External c = c ∷ []
+
+unfoldable pub externals : Expr → List ℕ
+externals (atom c a) = ifExternal (a .role) c
+externals (rule g) = []
+externals (union a b) = externals a ++ externals b
+externals (relabel i j e) = externals e
+externals (connect k i j e) = externals e

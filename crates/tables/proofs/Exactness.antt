@@ -20,10 +20,11 @@ use Rattle.semantics.specs.AnswerSets.{Interpretation, Assumptions, satisfies, 
 use Rattle.semantics.proofs.Interpretations.{Distinct}
 use Rattle.semantics.proofs.Stacks.{Fits, Chain, atomsAfter, fits-all, chain-all}
 use Rattle.tables.specs.Algebras.{entries, entry}
+use Rattle.tables.specs.Triples.{markF}
 use Rattle.tables.specs.Definitions.{Pair, ownTriple, subsets, unitePairs, mapPair, triples, pairs}
 use Rattle.tables.specs.Exactness.{IsTriple, IsPair, ExactTables}
 use Rattle.tables.proofs.Entries.{table-is, table-of, table-rising}
-use Rattle.tables.proofs.Subsets.{tripleOf, pair, pair-own, subsets-is, subsets-of}
+use Rattle.tables.proofs.Subsets.{left-out-rising, tripleOf, pair, pair-own, subsets-is, subsets-of}
 use Rattle.tables.proofs.Marks.{holds, has-true, has-false, has-unmet, triple-lt, reduct-unmet}
 use Rattle.tables.proofs.Answers.{triples-lawful, pairs-lawful, plain-triple}
 
@@ -46,7 +47,7 @@ unfolding entry pairs unitePairs mapPair entries fold setOf Rising
 subsets-rising K (atom c g) p = step (p c)
   where
     step : (b : Bool) → Rising compareNumbers (subsets (cond b (pairs K .present c g) (pairs K .absent c g)))
-    step true = (tt, tt)
+    step true = left-out-rising (g .role) (markF K (g .label))
     step false = tt
 subsets-rising K (rule g) p = tt
 subsets-rising K (union e f) p = rising-canon numbers-lawful _

@@ -336,11 +336,11 @@ module _ (K : ℕ) where
 
   triple-marks : (e : Expr) → Fits K e → Right e
   unfolding tripleOf markT markF markU atoms rules Fits renamed atomMark ruleMarks holds some relabelTriple connectTriple
-  triple-marks (atom c g) h p q = step (q c)
+  triple-marks (atom c a) h p q = step (q c)
     where
-      step : (b : Bool) → SetOf (cond b (markT K g) (markF K g)) (cond b g (K + g) ∷ [])
-      step true = set-pow g
-      step false = set-pow (K + g)
+      step : (b : Bool) → SetOf (cond b (markT K (a .label)) (markF K (a .label))) (cond b (a .label) (K + a .label) ∷ [])
+      step true = set-pow (a .label)
+      step false = set-pow (K + a .label)
   triple-marks (rule g) h p q = set-pow (2 * K + g)
   triple-marks (union a b) h p q =
       relist (ap₂ _++_ (sym (map-append (atomMark q) (atoms a) (atoms b))) (sym (rule-append p q (rules a) (rules b))))

@@ -10,6 +10,7 @@ use Rattle.lists.specs.Lists.{products}
 use Rattle.lists.specs.Sorted.{byOrder, compareNumbers, compareLists, insert, insertAll, canon, setOf}
 use Rattle.lists.proofs.Members.{products-map}
 use Rattle.expression.specs.declared.Kind.{Kind}
+use Rattle.expression.specs.declared.NewAtom.{NewAtom}
 use Rattle.semantics.specs.Expressions.{Expr}
 use Rattle.semantics.specs.AnswerSets.{Assumptions}
 use Rattle.semantics.proofs.Homomorphisms.{Homomorphism, fold-map}
@@ -19,8 +20,8 @@ use Rattle.tables.specs.Definitions.{Pair, unitePairs, mapPair, triples,
 -- ---- entries
 
 pub record Morphism {X Y : Type 0} (A : Algebra X) (B : Algebra Y) (h : X → Y) : Type 0 where
-  pub present : (c g : ℕ) → h (A .present c g) ≡ B .present c g
-  pub absent : (c g : ℕ) → h (A .absent c g) ≡ B .absent c g
+  pub present : (c : ℕ) (a : NewAtom) → h (A .present c a) ≡ B .present c a
+  pub absent : (c : ℕ) (a : NewAtom) → h (A .absent c a) ≡ B .absent c a
   pub unmet : (g : ℕ) → h (A .unmet g) ≡ B .unmet g
   pub united : (x y : X) → h (A .united x y) ≡ B .united (h x) (h y)
   pub relabelled : (i j : ℕ) (x : X) → h (A .relabelled i j x) ≡ B .relabelled i j (h x)
@@ -56,7 +57,7 @@ module _ {X Y : Type 0} {A : Algebra X} {B : Algebra Y} {h : X → Y} (M : Morph
   canon-by : (xs : List X) {ys : List Y} → map h xs ≡ ys → map h (canon (A .order) (A .merge) xs) ≡ canon (B .order) (B .merge) ys
   canon-by xs k = map-canon xs ∙ ap (canon (B .order) (B .merge)) k
 
-  map-leaf : (o : Assumptions) (c g : ℕ) → map h (leaf A o c g) ≡ leaf B o c g
+  map-leaf : (o : Assumptions) (c : ℕ) (g : NewAtom) → map h (leaf A o c g) ≡ leaf B o c g
   unfolding leaf
   map-leaf o c g = step (o .falses c) (o .trues c)
     where

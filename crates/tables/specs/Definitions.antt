@@ -5,6 +5,8 @@ use Prim.Native.Nat.{ℕ}
 use lib.Bits.{bitOr}
 use Rattle.lists.specs.Lists.{some, products}
 use Rattle.lists.specs.Sorted.{compareNumbers, compareLists, second, setOf}
+use Rattle.expression.specs.declared.Role.{Role}
+use Rattle.expression.specs.declared.Role.the-variants.{Derived, External}
 use Rattle.tables.specs.Algebras.{Algebra}
 use Rattle.tables.specs.Triples.{markT, markF, markU, relabelTriple, connectTriple, allMet}
 
@@ -30,12 +32,17 @@ unitePairs x y =
 unfoldable pub mapPair : ℕ → (ℕ → ℕ) → Pair → Pair
 mapPair q g x = q ∷ setOf (map g (subsets x))
 
+-- the subsets of an atom that is in: the one that leaves it out; 02, Item 9: of an external atom there is none
+abbrev pub leftOut : Role → ℕ → List ℕ
+leftOut Derived s = s ∷ []
+leftOut External s = []
+
 module _ (K : ℕ) where
   -- Definition 5
   unfoldable pub triples : Algebra ℕ
   triples = record {
-    present = λ c g. markT K g;
-    absent = λ c g. markF K g;
+    present = λ c a. markT K (a .label);
+    absent = λ c a. markF K (a .label);
     unmet = markU K;
     united = bitOr;
     relabelled = relabelTriple K;
@@ -47,8 +54,8 @@ module _ (K : ℕ) where
   -- Definition 8
   unfoldable pub pairs : Algebra Pair
   pairs = record {
-    present = λ c g. markT K g ∷ markF K g ∷ [];
-    absent = λ c g. markF K g ∷ [];
+    present = λ c a. markT K (a .label) ∷ leftOut (a .role) (markF K (a .label));
+    absent = λ c a. markF K (a .label) ∷ [];
     unmet = λ g. markU K g ∷ [];
     united = unitePairs;
     relabelled = λ i j x. mapPair (relabelTriple K i j (ownTriple x)) (relabelTriple K i j) x;
@@ -60,8 +67,8 @@ module _ (K : ℕ) where
   -- Definition 5 again, as the words keep it: a triple is a pair without subsets
   unfoldable pub flat : Algebra Pair
   flat = record {
-    present = λ c g. markT K g ∷ [];
-    absent = λ c g. markF K g ∷ [];
+    present = λ c a. markT K (a .label) ∷ [];
+    absent = λ c a. markF K (a .label) ∷ [];
     unmet = λ g. markU K g ∷ [];
     united = unitePairs;
     relabelled = λ i j x. mapPair (relabelTriple K i j (ownTriple x)) (relabelTriple K i j) x;

@@ -9,8 +9,8 @@ use Rattle.lists.specs.Lists.{some}
 use Rattle.lists.specs.Sorted.{Rising, compareNumbers, compareLists}
 use Rattle.labels.specs.Sets.{has}
 use Rattle.semantics.specs.Expressions.{Expr}
-use Rattle.semantics.specs.Programs.{Atom, Rule, atoms, rules, numbers, labelled}
-use Rattle.semantics.specs.AnswerSets.{Interpretation, Assumptions, Obeys, ProperSubset, satisfies, reduct}
+use Rattle.semantics.specs.Programs.{Atom, Rule, atoms, rules, numbers, externals, labelled}
+use Rattle.semantics.specs.AnswerSets.{Interpretation, Assumptions, Obeys, Smaller, satisfies, reduct}
 use Rattle.tables.specs.Algebras.{table}
 use Rattle.tables.specs.Definitions.{Pair, ownTriple, subsets, triples, pairs}
 
@@ -32,13 +32,13 @@ module _ (K : ℕ) (e : Expr) where
     pub unmet : (g : ℕ) → g < K → has (2 * K + g) t ≡ someUnmet g rs q
     pub no-more : t < 2 ^ (3 * K)
 
-  -- 01: x is the pair of p: first its triple, then, rising, exactly the triples of its proper subsets in its reduct
+  -- 01: x is the pair of p: first its triple, then, rising, exactly the triples, in its reduct, of the strictly smaller interpretations (02, Item 9)
   pub record IsPair (p : Interpretation) (x : Pair) : Type 0 where
     pub listed : x ≡ ownTriple x ∷ subsets x
     pub own : IsTriple (rules e) p (ownTriple x)
     pub rising : Rising compareNumbers (subsets x)
-    pub subsets-are : (r : ℕ) → List·Memᴰ r (subsets x) → (q : Interpretation) × ProperSubset (numbers e) q p × IsTriple (reduct p (rules e)) q r
-    pub subsets-all : (q : Interpretation) → ProperSubset (numbers e) q p → (r : ℕ) × IsTriple (reduct p (rules e)) q r × List·Memᴰ r (subsets x)
+    pub subsets-are : (r : ℕ) → List·Memᴰ r (subsets x) → (q : Interpretation) × Smaller (numbers e) (externals e) q p × IsTriple (reduct p (rules e)) q r
+    pub subsets-all : (q : Interpretation) → Smaller (numbers e) (externals e) q p → (r : ℕ) × IsTriple (reduct p (rules e)) q r × List·Memᴰ r (subsets x)
 
   -- DEMAND 2 of a part: its table of pairs is exactly the pairs of the interpretations that obey the assumptions, its plain table exactly their triples
   pub record ExactTables (o : Assumptions) : Type 0 where

@@ -425,10 +425,10 @@ fn crowded(leaf: u8, place: usize) -> u64
     refused_at(leaf, place, &mut bytes)
 }
 
-// A 64th atom, a 257th rule.
+// A 64th atom, of either kind, and a 257th rule.
 fn try_large() {
-    print_number(try_long() + crowded(0x11, 188) + crowded(0x12, 767));
-    io::write_all(STDOUT_FILENO, b"of 4 large sheets\n");
+    print_number(try_long() + crowded(0x11, 188) + crowded(0x13, 188) + crowded(0x12, 767));
+    io::write_all(STDOUT_FILENO, b"of 5 large sheets\n");
 }
 
 // ---- random trials

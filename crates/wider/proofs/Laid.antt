@@ -17,9 +17,11 @@ use Rattle.lists.specs.Sorted.{byOrder, compareNumbers, compareLists, setOf}
 use Rattle.lists.proofs.Members.{products-map}
 use Rattle.labels.specs.Sets.{has, without, replace}
 use Rattle.expression.specs.declared.Kind.{Kind}
+use Rattle.expression.specs.declared.Role.{Role}
+use Rattle.expression.specs.declared.Role.the-variants.{Derived, External}
 use Rattle.expression.specs.declared.Kind.the-variants.{Head, Positive, Negative}
 use Rattle.tables.specs.Triples.{markT, markF, markU, relabelTriple, settles, connectTriple, allMet}
-use Rattle.tables.specs.Definitions.{Pair, ownTriple, subsets, unitePairs, mapPair, triples, pairs}
+use Rattle.tables.specs.Definitions.{Pair, ownTriple, subsets, unitePairs, mapPair, leftOut, triples, pairs}
 use Rattle.tables.proofs.Morphisms.{Morphism, map-canon, map-each}
 use Rattle.wider.specs.Layouts.{laidOut}
 use Rattle.wider.proofs.Moves.{Moves, moved-none, moved-or, moved-pow, moved-without, moved-replace, moved-order, raised, raisedPlace, raised-moves}
@@ -129,8 +131,8 @@ module _ (K L : ℕ) (wide : K ≤ L) where
   carries-triples : Morphism (restricted K 0 (triples K)) (restricted K 0 (triples L)) laid
   unfolding restricted triples
   carries-triples = record {
-    present = λ c g. restricted-one K laid laid-none g (laid-T g);
-    absent = λ c g. restricted-one K laid laid-none g (laid-F g);
+    present = λ c a. restricted-one K laid laid-none (a .label) (laid-T (a .label));
+    absent = λ c a. restricted-one K laid laid-none (a .label) (laid-F (a .label));
     unmet = λ g. restricted-one K laid laid-none g (λ a. laid-U g);
     united = laid-or;
     relabelled = λ i j q. restricted-two K laid q i j (λ a b. laid-relabel i j a b q);
@@ -179,12 +181,16 @@ module _ (K L : ℕ) (wide : K ≤ L) where
   unfolding mapPair
   laid-map q r f g x k e = ap₂ {C = Pair} _∷_ k (laid-set (map f (subsets x)) ∙ ap setOf (map-each carries-triples f g e (subsets x) ∙ ap (map g) (sym (laid-subsets x))))
 
+  laid-out : (r : Role) (s : ℕ) → map laid (leftOut r s) ≡ leftOut r (laid s)
+  laid-out Derived s = refl
+  laid-out External s = refl
+
   -- Definition 8
   carries-pairs : Morphism (restricted K [] (pairs K)) (restricted K [] (pairs L)) (map laid)
   unfolding restricted pairs
   carries-pairs = record {
-    present = λ c g. restricted-one K (map laid) refl g (λ a. ap₂ {C = Pair} (λ q r. q ∷ r ∷ []) (laid-T g a) (laid-F g a));
-    absent = λ c g. restricted-one K (map laid) refl g (λ a. ap {B = Pair} (λ q. q ∷ []) (laid-F g a));
+    present = λ c a. restricted-one K (map laid) refl (a .label) (λ l. ap₂ {C = Pair} _∷_ (laid-T (a .label) l) (laid-out (a .role) _ ∙ ap (leftOut (a .role)) (laid-F (a .label) l)));
+    absent = λ c a. restricted-one K (map laid) refl (a .label) (λ l. ap {B = Pair} (λ q. q ∷ []) (laid-F (a .label) l));
     unmet = λ g. restricted-one K (map laid) refl g (λ a. ap {B = Pair} (λ q. q ∷ []) (laid-U g));
     united = laid-unite;
     relabelled = λ i j x. restricted-two K (map laid) x i j

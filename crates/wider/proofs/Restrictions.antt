@@ -23,8 +23,8 @@ use Rattle.tables.proofs.Morphisms.{Morphism, tables-map}
 module _ {X : Type 0} (K : ℕ) (none : X) where
   unfoldable pub restricted : Algebra X → Algebra X
   restricted A = record {
-    present = λ c g. cond (ltb g K) (A .present c g) none;
-    absent = λ c g. cond (ltb g K) (A .absent c g) none;
+    present = λ c a. cond (ltb (a .label) K) (A .present c a) none;
+    absent = λ c a. cond (ltb (a .label) K) (A .absent c a) none;
     unmet = λ g. cond (ltb g K) (A .unmet g) none;
     united = A .united;
     relabelled = λ i j x. cond (ltb i K) (cond (ltb j K) (A .relabelled i j x) x) x;
@@ -42,7 +42,7 @@ module _ {X : Type 0} (K : ℕ) (none : X) where
     -- a command whose labels are below K does the same
     pub act-restricted : (o : Assumptions) (n : ℕ) (c : Command) → Suits K c → (ts : List (List X)) → act (tables (restricted A) o) n c ts ≡ act (tables A o) n c ts
     unfolding restricted tables leaf act Suits
-    act-restricted o n (Atom g) s ts = rw (lt-ltb g K s) refl
+    act-restricted o n (Atom a) s ts = rw (lt-ltb (a .label) K s) refl
     act-restricted o n (Rule g) s ts = rw (lt-ltb g K s) refl
     act-restricted o n Union s ts = refl
     act-restricted o n (Relabel i j) s ts = change-restricted (A .relabelled i j) i j s ts

@@ -19,7 +19,7 @@ abbrev start : tie.After-put-leaf → tie.Start
 start u = u .before .before .before .before .before .before .before .before .before
 
 abbrev cands : tie.Start → List Entry
-cands s = leafEntries (s .args .tables) (s .args .atom) (s .args .g)
+cands s = leafEntries (s .args .tables) (s .args .atom) (s .args .new)
 
 two : (s : tie.Start) → 2 ≤ s .args .w
 two s = wide-two (s .args .tables) (s .args .w) (s .pre .0 .0)

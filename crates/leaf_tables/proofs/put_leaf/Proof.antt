@@ -28,11 +28,11 @@ Table s cands left m ws₀ ws index vals = Making (s .args .carry) (s .args .w) 
 
 -- the one whose next candidates are the atom's entries
 abbrev Entries : tie.Start → List Entry → List Entry → List ℕ → Type 0
-Entries s cands rest ws₀ = Table s cands (leafEntries (s .args .tables) (s .args .atom) (s .args .g) ++ rest) 0 ws₀ (s .args .ws .now) (s .args .index .now) (s .args .vals .now)
+Entries s cands rest ws₀ = Table s cands (leafEntries (s .args .tables) (s .args .atom) (s .args .new) ++ rest) 0 ws₀ (s .args .ws .now) (s .args .index .now) (s .args .vals .now)
 
 -- what is left then
 abbrev left : tie.Start → List Entry → List Entry
-left s rest = absents (s .args .tables) (s .args .atom) (s .args .g) ++ rest
+left s rest = absents (s .args .tables) (s .args .atom) (s .args .new) ++ rest
 
 -- the present one comes first, where the atom may be in
 first : (k : tie.After-write-present) (cands rest : List Entry) (ws₀ : List ℕ) → Entries (start k) cands rest ws₀
@@ -40,7 +40,7 @@ first : (k : tie.After-write-present) (cands rest : List Entry) (ws₀ : List �
 first k cands rest ws₀ h =
     let s = start k in
     subst (λ (xs : List Entry). Table s cands xs 0 ws₀ (s .args .ws .now) (s .args .index .now) (s .args .vals .now))
-    (present-first (s .args .tables) (s .args .atom) (s .args .g) (k .write-present .last .0) rest (k .write-present .ensures .1 0)) h
+    (present-first (s .args .tables) (s .args .atom) (s .args .new) (k .write-present .last .0) rest (k .write-present .ensures .1 0)) h
 
 -- then the absent one, where it may be out
 second : (k : tie.After-write-absent) (cands rest : List Entry) (ws₀ : List ℕ) → Entries (start (written (first-put k))) cands rest ws₀
@@ -49,7 +49,7 @@ second k cands rest ws₀ h =
     let u = first-put k in
     let s = start (written u) in
     subst (λ (xs : List Entry). Table s cands (xs ++ rest) (u .put-if .result) ws₀ (u .put-if .last .0) (u .put-if .last .1 .1 .0) (u .put-if .last .1 .1 .1 .0))
-    (absent-next (s .args .tables) (s .args .atom) (s .args .g) (k .write-absent .last .0) (k .write-absent .ensures .1))
+    (absent-next (s .args .tables) (s .args .atom) (s .args .new) (k .write-absent .last .0) (k .write-absent .ensures .1))
     (u .put-if .ensures cands (left s rest) ws₀ (first (written u) cands rest ws₀ h))
 
 write-present-requires : tie.Need-write-present-requires

@@ -54,8 +54,8 @@ module _ (u : tie.After-atom-table) where
   after-long = made-back (held s) (s .pre .1 .0) (from v) (many v) (v .before .values-from .ensures) (v .words-of .ensures) new (u .atom-table .kept .1 .1 .1 .0) .long
 
   done : {vals' : List ℕ} → (u .atom-table .result ≤ s .args .p → vals' ≡ placed (s .args .carry) (s .args .d) (s .args .p) (s .args .t) (u .atom-table .result) after)
-      → (n m : ℕ) → Acts (s .args .carry) (s .args .d) (s .args .w) (s .args .p) (s .args .t) n m (pushed (tableOfAll (s .args .carry) (leafEntries (s .args .tables) (s .args .atom) (s .args .g)))) (u .atom-table .result) (s .args .ws .now) (s .args .vals .now) (u .atom-table .last .0) vals'
-  done moved x y = pushed-acted (wide-two (s .args .tables) (s .args .w) (s .pre .0 .0)) (s .pre .1 .0) (from v) (many v) (v .before .values-from .ensures) (v .words-of .ensures) new (u .atom-table .kept .1 .1 .1 .0) (u .atom-table .ensures .0) (leaf-filled (s .args .tables) (s .args .atom) (s .args .g)) (leaf-ordered (s .args .tables) (s .args .atom) (s .args .g)) moved
+      → (n m : ℕ) → Acts (s .args .carry) (s .args .d) (s .args .w) (s .args .p) (s .args .t) n m (pushed (tableOfAll (s .args .carry) (leafEntries (s .args .tables) (s .args .atom) (s .args .new)))) (u .atom-table .result) (s .args .ws .now) (s .args .vals .now) (u .atom-table .last .0) vals'
+  done moved x y = pushed-acted (wide-two (s .args .tables) (s .args .w) (s .pre .0 .0)) (s .pre .1 .0) (from v) (many v) (v .before .values-from .ensures) (v .words-of .ensures) new (u .atom-table .kept .1 .1 .1 .0) (u .atom-table .ensures .0) (leaf-filled (s .args .tables) (s .args .atom) (s .args .new)) (leaf-ordered (s .args .tables) (s .args .atom) (s .args .new)) moved
 
 mul-area : tie.Need-mul-area
 mul-area c = let s = c .before .before .before .before in omega (arith, one-fits (held s) (s .pre .1 .0))

@@ -22,7 +22,7 @@ unfolding commandOf
 returns-4 c =
     let none = c .match .rest in
     let other = pair-byte _ (c .before .pre) in
-    simp (other .0, other .1, other .2, ne-eqb _ _ (none .0 .0 .1), ne-eqb _ _ (none .0 .1), ne-eqb _ _ (none .1))
+    simp (other .0, other .1, other .2, other .3, ne-eqb _ _ (none .0 .0 .1), ne-eqb _ _ (none .0 .1), ne-eqb _ _ (none .1))
 
 pub pair-of-spec : {M : Type 1} → statement M
 pair-of-spec = tie.close (tie.spec returns returns-2 returns-3 returns-4)

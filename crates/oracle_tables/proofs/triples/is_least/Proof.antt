@@ -13,6 +13,9 @@ abbrev μ-loop : tie.MeasureT-loop
 loop-holds : tie.Need-loop-holds Inv-loop μ-loop
 loop-holds c = search needs
 
+is-smaller-requires : tie.Need-is-smaller-requires Inv-loop μ-loop
+is-smaller-requires c κs = search needs
+
 is-model-requires : tie.Need-is-model-requires Inv-loop μ-loop
 is-model-requires c κs = search needs
 
@@ -38,6 +41,7 @@ is-least-spec =
     Inv-loop
     μ-loop
     loop-holds
+    is-smaller-requires
     is-model-requires
     returns
     add-j
