@@ -45,6 +45,7 @@ char *asp_text(const policy *p, uint64_t pins_in, uint64_t pins_out)
     FILE *out = open_memstream(&text, &length);
     for (unsigned r = 0; r < p->rules; r++) put_rule(out, p->head[r], p->positive[r], p->negative[r]);
     for (unsigned c = 0; c < p->atoms; c++) {
+        if (p->granted >> c & 1) fprintf(out, "{a%u}.\n", c);
         if (pins_in >> c & 1) put_rule(out, 0, 0, (uint64_t)1 << c);
         if (pins_out >> c & 1) put_rule(out, 0, (uint64_t)1 << c, 0);
     }

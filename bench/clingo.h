@@ -8,7 +8,7 @@
 #include <stddef.h>
 #include <stdint.h>
 
-// The policy as ASP text, pins as constraints. The text stays the caller's to free.
+// The policy as ASP text, granted copies as choices and pins as constraints. The text stays the caller's to free.
 char *asp_text(const policy *p, uint64_t pins_in, uint64_t pins_out);
 
 // Finds the program ($CLINGO, else `clingo`) and the library ($CLINGO_LIBRARY, else libclingo.so.3).

@@ -156,6 +156,18 @@ static void named(instance **next, const char *family, const instance *from, uns
     }
 }
 
+// ---- granted copies: the sheet of another family with every second copy granted
+
+static void granted(instance **next, const char *family, const instance *from)
+{
+    instance *x = (*next)++;
+    unsigned copies = 0;
+    *x = *from;
+    x->family = family;
+    for (size_t at = 0; at < x->sheet_len; at = policy_command_at(x->sheet, at).next)
+        if (x->sheet[at] == 0x11 && copies++ % 2 == 0) x->sheet[at] = 0x13;
+}
+
 // ---- saturation: the reduction of a quantified formula, over 30 pairs of copies and one copy w
 
 enum { W = 0, Y = 1, Z = 2, Y_BEFORE = 3, Z_BEFORE = 4 };
@@ -342,11 +354,13 @@ size_t all_families(instance *instances)
 {
     instance *next = instances;
     for (uint64_t seed = 1; seed <= 4; seed++) chain(&next, "chain, 2 groups kept", 2, 2 + seed % 2, seed);
+    for (unsigned k = 0; k < 4; k++) granted(&next, "chain, 2 groups, half granted", next - 4);
     for (uint64_t seed = 1; seed <= 4; seed++) chain(&next, "chain, 3 groups kept", 3, 2 + seed % 2, seed);
     circle(&next, "circle of needs, 63 copies", 63, NEEDED, 0);
     named(&next, "circle of needs, copies named", next - 1, 0x11);
     named(&next, "circle of needs, all named", next - 2, 0x12);
     circle(&next, "circle of needs, one pinned in", 63, NEEDED, 1);
+    granted(&next, "circle of needs, half granted", next - 1);
     circle(&next, "circle of bars, 62 copies", 62, BARRING, 0);
     circle(&next, "circle of bars, 63 copies", 63, BARRING, 0);
     saturation(&next, "saturation, 30 pairs, yes", 0, 1);

@@ -27,7 +27,7 @@ typedef struct { unsigned atoms, rules, depth, deepest; } counts;
 static int operands_of(unsigned code)
 {
     switch (code) {
-    case ATOM: case RULE: return 1;
+    case ATOM: case RULE: case GRANTED: return 1;
     case UNION: case NAME: return 0;
     case RELABEL: case HEAD: case POSITIVE: case NEGATIVE: return 2;
     default: return -1;
@@ -53,7 +53,7 @@ static unsigned read_command(const uint8_t *sheet, size_t sheet_len, size_t at, 
 static unsigned count_command(counts *n, unsigned code)
 {
     switch (code) {
-    case ATOM:
+    case ATOM: case GRANTED:
         if (n->atoms == ATOMS) return CROWDED;
         if (n->depth == PARTS) return DEEP;
         n->atoms++, n->depth++;

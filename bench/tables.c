@@ -74,7 +74,8 @@ static void put_row(table *t, size_t width, uint32_t q, const uint32_t *subset, 
     t->first[t->count++] = first;
 }
 
-static unsigned push_atom(state *s, unsigned label)
+// A granted atom is not taken away: its pairs have no subsets.
+static unsigned push_atom(state *s, unsigned label, bool is_granted)
 {
     uint64_t atom = (uint64_t)1 << s->atoms;
     bool can_be_true = !(s->assumed_false & atom), can_be_false = !(s->assumed_true & atom);
@@ -82,7 +83,7 @@ static unsigned push_atom(state *s, unsigned label)
     table *t = &s->tables[s->depth++];
     uint32_t in = 1u << label, out = 1u << (LABELS + label);
     t->count = 0;
-    if (can_be_true) put_row(t, s->width, in, &out, (uint64_t)1 << (62 - s->atoms));
+    if (can_be_true) put_row(t, s->width, in, is_granted ? NULL : &out, (uint64_t)1 << (62 - s->atoms));
     if (can_be_false) put_row(t, s->width, out, NULL, 0);
     s->atoms++;
     return 0;
@@ -240,7 +241,7 @@ static unsigned map_table(state *s, const command *c)
 unsigned run_command(state *s, const command *c)
 {
     switch (c->code) {
-    case ATOM: return push_atom(s, c->i);
+    case ATOM: case GRANTED: return push_atom(s, c->i, c->code == GRANTED);
     case RULE: return push_rule(s, c->i);
     case UNION: return unite(s);
     case NAME: return 0;
@@ -252,7 +253,7 @@ unsigned run_command(state *s, const command *c)
 
 static unsigned push_plain_atom(state *s, unsigned label)
 {
-    unsigned fault = push_atom(s, label);
+    unsigned fault = push_atom(s, label, true);
     if (fault) return fault;
     table *t = &s->tables[s->depth - 1];
     if (t->count == 2) t->rows[1] = t->rows[s->width];
@@ -294,7 +295,7 @@ static unsigned map_plain(state *s, const command *c)
 unsigned run_plain_command(state *s, const command *c)
 {
     switch (c->code) {
-    case ATOM: return push_plain_atom(s, c->i);
+    case ATOM: case GRANTED: return push_plain_atom(s, c->i);
     case RULE: return push_rule(s, c->i);
     case UNION: return unite_plain(s);
     case NAME: return 0;

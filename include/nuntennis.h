@@ -28,6 +28,7 @@
  *
  *     11 g      a new copy in group g; copies are numbered from 0 in the order in which they appear (at most 63)
  *     12 g      a new rule in group g, its three sets empty (at most 256)
+ *     13 g      a new granted copy in group g: a copy like any other, numbered with them and counted among the 63, that no rule need make
  *     21        join the two newest parts into one
  *     31 i j    in the newest part everything of group i moves to group j
  *     41 i j    in the newest part every copy of group i goes into the head set of every rule of group j
@@ -35,12 +36,13 @@
  *     43 i j    .. into the barring set
  *     51 name   the copy or rule that appeared last is called so: sixteen bytes of any value (see NAMES)
  *
- * 11 and 12 put a new part on the stack (at most 8 at a time); a whole sheet leaves one part. The sheet's depth (D) is the most parts that
- * it has at any moment; most sheets need two or three.
+ * 11, 12 and 13 put a new part on the stack (at most 8 at a time); a whole sheet leaves one part. The sheet's depth (D) is the most parts
+ * that it has at any moment; most sheets need two or three.
  *
  * A plan is a set of copies. It meets a rule if some needed copy is missing, or some barring copy is present, or some head copy is
- * present. It is grounded if it meets every rule, and no smaller plan (a proper subset) meets every rule that is left once the rules
- * with a barring copy in the plan are struck out and the other barring sets are emptied. In other words: it is an answer set.
+ * present. It is grounded if it meets every rule, and no strictly smaller plan (a proper subset) that agrees with it on every granted copy
+ * meets every rule that is left once the rules with a barring copy in the plan are struck out and the other barring sets are emptied. In
+ * other words: it is an answer set, where each granted copy is a choice. Below, the smaller plans of a plan are those that agree so.
  *
  *
  * PARAMETERS
@@ -92,7 +94,7 @@
  *    6  cut            an operand, or a byte of a name, is missing             offset of that command
  *    7  group          an operand is over 9                                    offset of that command
  *    8  same           i equals j                                              offset of that command
- *    9  crowded        a 64th copy or a 257th rule                             offset of that command
+ *    9  crowded        a 64th copy, granted or not, or a 257th rule            offset of that command
  *   10  deep           a ninth part                                            offset of that command
  *   11  bare           21 with under two parts; 31, 41, 42, 43, 51 with none   offset of that command
  *   12  unjoined       not exactly one part at the end                         sheet_len
@@ -138,7 +140,7 @@
  *   21               for each pair of one part and each of the other: (subsets of the one + 1) * (subsets of the other + 1) steps, and
  *                    what they make is put in order; in all at most P*P*(G+1)*(G+1) steps
  *   31, 41, 42, 43   for each pair: subsets + 1 steps, and what they make is put in order
- *   11, 12           at most two pairs
+ *   11, 12, 13       at most two pairs
  *   51               nothing
  *
  * A join that is refused can take as long: 16 is said once no pair gave 15. plain and plain_report have no subsets, so a join takes
@@ -254,7 +256,7 @@ uint64_t nuntennis_depth(const uint8_t *sheet, size_t sheet_len, uint64_t *answe
 /*
  * NAMES
  *
- * A 51 names the newest copy or rule, that is the one that appeared last in the sheet (11 or 12), wherever it stands by now: after
+ * A 51 names the newest copy or rule, that is the one that appeared last in the sheet (11, 12 or 13), wherever it stands by now: after
  * 11 00 11 01 21 it names copy 1. Naming again replaces the name. A rule's name is read and never handed back, and behind a rule a 51 does
  * not name the copy before it. The sixteen bytes may be anything, command bytes included.
  *
@@ -278,10 +280,10 @@ uint64_t nuntennis_name(const uint8_t *sheet, size_t sheet_len, uint64_t copy, u
  * DECISIONS
  *
  * nuntennis_grounded: is there a grounded plan that obeys the pins? Pins bind the plan, never the smaller plans that it is compared
- * with. No, exactly when there is none. A yes shows the first: copy 0 is left out if any grounded plan that obeys the pins leaves it out,
- * then copy 1 by the same test among those still possible, and so on. So one policy with one set of pins has one plan, whatever limits
- * it is decided under, and no bit beyond the sheet's copies is set in it. Finding it needs no wider limits, and so no other refusal, than
- * the bare yes.
+ * with; those have the plan's granted copies whether pinned or not. No, exactly when there is none. A yes shows the first: copy 0 is left
+ * out if any grounded plan that obeys the pins leaves it out, then copy 1 by the same test among those still possible, and so on. So one
+ * policy with one set of pins has one plan, whatever limits it is decided under, and no bit beyond the sheet's copies is set in it. Finding
+ * it needs no wider limits, and so no other refusal, than the bare yes.
  *
  * nuntennis_plain: is there a plan that meets every rule and obeys the pins? It shows none. P limits the triples of a table; G only
  * counts for refusals 2 and 3.
@@ -295,6 +297,8 @@ uint64_t nuntennis_name(const uint8_t *sheet, size_t sheet_len, uint64_t copy, u
  *     nuntennis_grounded(sheet, sizeof sheet, 32, 32, 0, 0, workspace, NUNTENNIS_MOST_WORKSPACE_WORDS(32, 32), answer, 3);
  *     if (answer[0] == NUNTENNIS_YES) printf("plan %llx\n", (unsigned long long)answer[1]);                      // plan 1
  *     if (answer[0] == NUNTENNIS_REFUSED) printf("refusal %d at byte %d\n", (int)answer[1], (int)answer[2]);
+ *
+ * With copy 0 pinned in, the sheet 13 00 gives yes with mask 1, as the copy is granted, and 11 00 gives no, as no rule makes the copy.
  */
 uint64_t nuntennis_grounded(const uint8_t *sheet, size_t sheet_len,
                             uint64_t plan_limit, uint64_t subset_limit, uint64_t pins_in, uint64_t pins_out,
@@ -316,6 +320,9 @@ uint64_t nuntennis_plain(const uint8_t *sheet, size_t sheet_len,
  * A triple is three sets of groups as one number, T + 1024*F + 1048576*U, where group g counts 2^g in its set. T: groups with a copy in
  * the plan. F: groups with a copy outside it. U: groups with an unmet rule. A pair is a triple Q of a plan, with the triples of its
  * smaller plans, its subsets. Equal pairs count once.
+ *
+ * After 11 g the pairs are T = {g} with the one subset F = {g}, and F = {g} without subsets; after 13 g they are the same two, both without
+ * subsets. A copy pinned in has the first pair alone, one pinned out the second. The plain table is the same after both.
  *
  * nuntennis_report writes each pair as Q, number of subsets, subsets. Pairs come by rising Q, then by their subset lists (each list
  * rising; compared place by place; a list before its longer continuations).

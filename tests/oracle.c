@@ -114,7 +114,7 @@ static uint32_t *pair_of(const policy *p, unsigned part, uint64_t x)
     uint32_t *row = new_row(triple_of(p, part, x, x), (size_t)1 << __builtin_popcountll(x));
     for (uint64_t y = x; y != 0;) {
         y = (y - 1) & x;
-        row[2 + row[1]++] = triple_of(p, part, x, y);
+        if (policy_is_smaller(p, x, y)) row[2 + row[1]++] = triple_of(p, part, x, y);
     }
     return row;
 }
@@ -141,7 +141,7 @@ oracle_table oracle_triples(const policy *p, unsigned part, uint64_t pins_in, ui
     return t;
 }
 
-// ---- tables by Definition 8
+// ---- tables by Definition 8, with the leaf of 02, Item 9
 
 enum { SETS = 1 << POLICY_GROUPS };
 
@@ -195,7 +195,7 @@ static void add_leaf(row_list *list, const policy_command *c, unsigned atom, uin
     }
     if (!(pins_out >> atom & 1)) {
         uint32_t *row = new_row(1u << c->i, 1);
-        row[2 + row[1]++] = 1u << (POLICY_GROUPS + c->i);
+        if (c->code == 0x11) row[2 + row[1]++] = 1u << (POLICY_GROUPS + c->i);
         add_row(list, row);
     }
     if (!(pins_in >> atom & 1)) add_row(list, new_row(1u << (POLICY_GROUPS + c->i), 0));

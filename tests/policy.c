@@ -7,9 +7,19 @@
 
 enum { NONE = 99 };
 
+static bool is_atom(unsigned code)
+{
+    return code == 0x11 || code == 0x13;
+}
+
+static bool is_leaf(unsigned code)
+{
+    return is_atom(code) || code == 0x12;
+}
+
 static unsigned operands_of(unsigned code)
 {
-    if (code == 0x11 || code == 0x12) return 1;
+    if (is_leaf(code)) return 1;
     if (code == 0x21 || code == 0x51) return 0;
     if (code == 0x31 || code == 0x41 || code == 0x42 || code == 0x43) return 2;
     return NONE;
@@ -21,11 +31,6 @@ static size_t bytes_of(unsigned code)
     return code == 0x51 ? 1 + POLICY_NAME : 1 + operands_of(code);
 }
 
-static bool is_leaf(unsigned code)
-{
-    return code == 0x11 || code == 0x12;
-}
-
 // Whether the condition of a refusal from 5 to 11 holds of the command at an offset, where no lower one does.
 static bool is_fault(unsigned number, const uint8_t *sheet, size_t sheet_len, size_t at, const policy *before)
 {
@@ -35,7 +40,7 @@ static bool is_fault(unsigned number, const uint8_t *sheet, size_t sheet_len, si
     case 6: return at + bytes_of(code) > sheet_len;
     case 7: return (operands >= 1 && sheet[at + 1] >= POLICY_GROUPS) || (operands == 2 && sheet[at + 2] >= POLICY_GROUPS);
     case 8: return operands == 2 && sheet[at + 1] == sheet[at + 2];
-    case 9: return (code == 0x11 && before->atoms == 63) || (code == 0x12 && before->rules == 256);
+    case 9: return (is_atom(code) && before->atoms == 63) || (code == 0x12 && before->rules == 256);
     case 10: return is_leaf(code) && before->parts == 8;
     default: return (code == 0x21 && before->parts < 2) || ((operands == 2 || code == 0x51) && before->parts == 0);
     }
@@ -93,7 +98,8 @@ static void name(policy *p, size_t at)
 void policy_apply(policy *p, const policy_command *c)
 {
     switch (c->code) {
-    case 0x11:
+    case 0x11: case 0x13:
+        if (c->code == 0x13) p->granted |= (uint64_t)1 << p->atoms;
         p->is_atom_last = true;
         p->atom_name[p->atoms] = 0;
         p->atom_label[p->atoms] = (uint8_t)c->i;
@@ -155,12 +161,17 @@ static bool is_reduct_model(const policy *p, uint64_t x, uint64_t y)
     return true;
 }
 
+bool policy_is_smaller(const policy *p, uint64_t x, uint64_t y)
+{
+    return y != x && (y & ~x) == 0 && (y & p->granted) == (x & p->granted);
+}
+
 bool policy_is_answer_set(const policy *p, uint64_t x)
 {
     if (!policy_is_model(p, x)) return false;
     for (uint64_t y = x; y != 0;) {
         y = (y - 1) & x; // every proper subset, down to the empty one
-        if (is_reduct_model(p, x, y)) return false;
+        if (policy_is_smaller(p, x, y) && is_reduct_model(p, x, y)) return false;
     }
     return true;
 }

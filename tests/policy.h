@@ -17,6 +17,7 @@ typedef struct {
     uint8_t atom_label[64], atom_part[64];
     uint8_t rule_label[256], rule_part[256];
     uint64_t head[256], positive[256], negative[256];
+    uint64_t granted;      // atoms that no rule need make (02, Item 9)
     bool is_atom_last;     // of the leaves
     size_t atom_name[64];  // where the last name of each atom begins; 0 for none, as a leaf stands before every name
 } policy;
@@ -36,5 +37,8 @@ size_t policy_unnamed(uint8_t *to, const uint8_t *sheet, size_t sheet_len);
 bool policy_obeys(uint64_t interpretation, uint64_t pins_in, uint64_t pins_out);
 bool policy_is_model(const policy *p, uint64_t interpretation);
 bool policy_is_answer_set(const policy *p, uint64_t interpretation);
+
+// Whether a set is one of the smaller plans considered: a proper subset that agrees on every granted atom.
+bool policy_is_smaller(const policy *p, uint64_t interpretation, uint64_t subset);
 
 #endif

@@ -132,6 +132,14 @@ size_t random_policy(random_source *r, uint8_t *sheet, unsigned atoms, unsigned 
     return w.length;
 }
 
+// ---- granted copies
+
+void random_grants(random_source *r, uint8_t *sheet, size_t sheet_len)
+{
+    for (size_t at = 0; at < sheet_len; at = policy_command_at(sheet, at).next)
+        if (sheet[at] == 0x11 && random_below(r, 2)) sheet[at] = 0x13;
+}
+
 // ---- names
 
 enum { NAMED = 1 + POLICY_NAME };
@@ -143,7 +151,7 @@ static size_t add_bytes(uint8_t *sheet, size_t sheet_len, size_t at, const uint8
     return sheet_len + n;
 }
 
-static const uint8_t codes[] = {0x11, 0x12, 0x21, 0x31, 0x41, 0x42, 0x43, 0x51};
+static const uint8_t codes[] = {0x11, 0x12, 0x13, 0x21, 0x31, 0x41, 0x42, 0x43, 0x51};
 
 // Of text, of command bytes, of 0 and 255, or of anything.
 static void random_name(random_source *r, uint8_t *name)
@@ -198,7 +206,7 @@ static size_t add_command(random_source *r, uint8_t *sheet, size_t sheet_len, si
 
 static uint8_t random_byte(random_source *r)
 {
-    static const uint8_t usual[] = {0x11, 0x12, 0x21, 0x31, 0x41, 0x42, 0x43, 0x51, 0x52, 0, 1, 2, POLICY_GROUPS - 1, POLICY_GROUPS, 255};
+    static const uint8_t usual[] = {0x11, 0x12, 0x13, 0x21, 0x31, 0x41, 0x42, 0x43, 0x51, 0x52, 0, 1, 2, POLICY_GROUPS - 1, POLICY_GROUPS, 255};
     return random_below(r, 3) == 0 ? (uint8_t)random_next(r) : usual[random_below(r, sizeof usual)];
 }
 

@@ -20,6 +20,9 @@ enum { RANDOM_SHEET_ROOM = 4200 };
 size_t random_parts(random_source *r, uint8_t *sheet, unsigned atoms, unsigned rules, unsigned labels);
 size_t random_policy(random_source *r, uint8_t *sheet, unsigned atoms, unsigned rules, unsigned labels);
 
+// Makes some copies of a sheet without faults granted ones.
+void random_grants(random_source *r, uint8_t *sheet, size_t sheet_len);
+
 // Puts names behind some commands of a sheet without faults, behind some of them two, while it stays within 4096 bytes.
 size_t random_names(random_source *r, uint8_t *sheet, size_t sheet_len);
 

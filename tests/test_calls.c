@@ -1,4 +1,4 @@
-// Decisions, reports and names with known answers: document 01's sheets to try, the order of the checks, the limits of a sheet, short buffers, rooms.
+// Decisions, reports and names with known answers: sheets to try of documents 01 and 02, the order of the checks, the limits of a sheet, short buffers, rooms.
 #include "calls.h"
 
 #include <inttypes.h>
@@ -29,6 +29,9 @@ typedef struct {
 #define COMMANDS "21 11 00 12 0A 31 02 02 51 41 FF 43 99 00 FF 51"
 // Copy 0 by the name that it got last, copy 1 by one that it got behind a join, and the rule by one that is not handed back.
 #define NAMED "11 00 51 " MIRROR " 51 " ARCHIVE " 11 00 21 51 " COMMANDS " 12 01 51 " MIRROR " 21 51 " COMMANDS " 41 00 01 51 " MIRROR
+// CIRCLE with the mirror granted; and copy 0 unless copy 1, which is granted, or not.
+#define GRANTED_CIRCLE "11 00 13 01 21 12 02 21 12 03 21 41 00 02 42 01 02 41 01 03 42 00 03"
+#define UNLESS " 01 21 12 02 21 41 00 02 43 01 02"
 #define YES(plan) {1, plan, 0}
 #define NO {0, 0, 0}
 #define REFUSED(number, place) {2, number, place}
@@ -117,6 +120,43 @@ static const trial trials[] = {
     {"a fault behind a name", "11 00 51 " COMMANDS " 99", 32, 32, 0, 0, REFUSED(5, 19), REFUSED(5, 19)},
     {"a name on nothing", "51 " ARCHIVE, 32, 32, 0, 0, REFUSED(11, 0), REFUSED(11, 0)},
     {"a name on nothing, of command bytes", "51 " COMMANDS " 11 00", 32, 32, 0, 0, REFUSED(11, 0), REFUSED(11, 0)},
+    // 02, Item 9: granted copies, beside what the copies are without
+    {"a granted copy", "13 00", 32, 32, 0, 0, YES(0), YES(0)},
+    {"a granted copy, pinned in", "13 00", 32, 32, 1, 0, YES(1), YES(0)},
+    {".. not granted", "11 00", 32, 32, 1, 0, NO, YES(0)},
+    {"a granted copy, pinned out", "13 00", 32, 32, 0, 1, YES(0), YES(0)},
+    {"CIRCLE, the mirror granted", GRANTED_CIRCLE, 32, 32, 0, 0, YES(0), YES(0)},
+    {"CIRCLE, the mirror granted and pinned in", GRANTED_CIRCLE, 32, 32, 2, 0, YES(3), YES(0)},
+    {".. not granted", CIRCLE, 32, 32, 2, 0, NO, YES(0)},
+    {"CIRCLE, the mirror granted, the archive pinned in", GRANTED_CIRCLE, 32, 32, 1, 0, YES(3), YES(0)},
+    {"CIRCLE, the mirror granted and pinned in, the archive out", GRANTED_CIRCLE, 32, 32, 2, 1, NO, NO},
+    {"unless a granted copy", "11 00 13" UNLESS, 32, 32, 0, 0, YES(2), YES(0)},
+    {".. not granted", "11 00 11" UNLESS, 32, 32, 0, 0, YES(1), YES(0)},
+    {"unless a granted copy, pinned in", "11 00 13" UNLESS, 32, 32, 2, 0, YES(2), YES(0)},
+    {".. not granted", "11 00 11" UNLESS, 32, 32, 2, 0, NO, YES(0)},
+    {"unless a granted copy, pinned out", "11 00 13" UNLESS, 32, 32, 0, 2, YES(1), YES(0)},
+    {"unless a granted copy, both pinned in: the smaller plan leaves the other out", "11 00 13" UNLESS, 32, 32, 3, 0, NO, YES(0)},
+    {"a granted copy that a rule makes", "13 00 12 01 21 41 00 01", 32, 32, 0, 0, YES(1), YES(0)},
+    {"a granted copy that a rule makes, pinned out", "13 00 12 01 21 41 00 01", 32, 32, 0, 1, NO, NO},
+    {"made unless kept, granted", "13 00 12 01 21 41 00 01 43 00 01", 32, 32, 0, 0, YES(1), YES(0)},
+    {"either of two granted", "13 00 13 00 21 12 01 21 41 00 01", 32, 32, 0, 0, YES(2), YES(0)},
+    {"both of two granted", "13 00 13 00 21 12 01 21 41 00 01", 32, 32, 3, 0, YES(3), YES(0)},
+    {"both of two, one granted", "13 00 11 00 21 12 01 21 41 00 01", 32, 32, 3, 0, NO, YES(0)},
+    {"unless a granted copy that moved", "11 00 13 03 21 31 03 01 12 02 21 41 00 02 43 01 02", 32, 32, 0, 0, YES(2), YES(0)},
+    {"a named granted copy", "13 00 51 " ARCHIVE, 32, 32, 1, 0, YES(1), YES(0)},
+    {"granted, P = 1", "13 00", 1, 32, 0, 0, REFUSED(16, 0), REFUSED(16, 0)},
+    {"granted, P = 1, pinned in", "13 00", 1, 32, 1, 0, YES(1), YES(0)},
+    {"granted, P = 1, pinned out", "13 00", 1, 32, 0, 1, YES(0), YES(0)},
+    {"two granted, P = 3, G = 1: no subsets", "13 00 13 00 21", 3, 1, 0, 0, YES(0), YES(0)},
+    {"two granted, P = 2", "13 00 13 00 21", 2, 1, 0, 0, REFUSED(16, 4), REFUSED(16, 4)},
+    {"granted, group 9", "13 09", 32, 32, 0, 0, YES(0), YES(0)},
+    {"granted, group 10", "13 0A", 32, 32, 0, 0, REFUSED(7, 0), REFUSED(7, 0)},
+    {"granted, cut", "13", 32, 32, 0, 0, REFUSED(6, 0), REFUSED(6, 0)},
+    {"granted, ninth part", "11 00 13 00 11 00 13 00 11 00 13 00 11 00 13 00 13 00", 32, 32, 0, 0, REFUSED(10, 16), REFUSED(10, 16)},
+    {"granted, unjoined", "11 00 13 00", 32, 32, 0, 0, REFUSED(12, 4), REFUSED(12, 4)},
+    {"granted, absent", "13 00", 32, 32, 2, 0, REFUSED(13, 2), REFUSED(13, 2)},
+    {"granted, clash", "13 00", 32, 32, 1, 1, REFUSED(4, 0), REFUSED(4, 0)},
+    {"the byte behind granted", "14 00", 32, 32, 0, 0, REFUSED(5, 0), REFUSED(5, 0)},
 };
 
 static size_t read_hex(const char *hex, uint8_t *bytes)
@@ -203,6 +243,31 @@ static void try_listed_reports(void)
     printf("reports of the listed sheet: 13 agree\n");
 }
 
+// 02, Item 9: the pairs of 11, both without subsets; then joined with copy 1, which is not granted: smaller plans leave out that one alone.
+static void try_granted_reports(void)
+{
+    static const uint32_t leaf[] = {1, 0, 1024, 0}, joined[] = {3, 1, 2049, 1026, 1, 3072, 2049, 0, 3072, 0};
+    static const uint32_t plain_leaf[] = {1, 1024}, plain_joined[] = {3, 1026, 2049, 3072};
+    uint8_t sheet[16];
+    oracle_request r = {sheet, read_hex("13 00 11 01 21", sheet), 32, 32, 0, 0, 0, 0, 0, 3};
+    r.workspace_len = need_of(&r);
+    case_name = "reports of granted copies";
+    expect_report(CALL_REPORT, &r, 0, 4, (oracle_answer){1, 2, 4}, leaf);
+    expect_report(CALL_REPORT, &r, 0, 3, (oracle_answer){2, 17, 0}, NULL);
+    expect_report(CALL_PLAIN_REPORT, &r, 0, 2, (oracle_answer){1, 2, 2}, plain_leaf);
+    expect_report(CALL_REPORT, &r, 1, 4, (oracle_answer){2, 14, 1}, NULL);
+    expect_report(CALL_REPORT, &r, 4, 10, (oracle_answer){1, 4, 10}, joined);
+    expect_report(CALL_PLAIN_REPORT, &r, 4, 4, (oracle_answer){1, 4, 4}, plain_joined);
+    r.pins_in = 1;
+    expect_report(CALL_REPORT, &r, 0, 2, (oracle_answer){1, 1, 2}, leaf);
+    expect_report(CALL_PLAIN_REPORT, &r, 0, 1, (oracle_answer){1, 1, 1}, plain_leaf);
+    r.pins_in = 0;
+    r.pins_out = 1;
+    expect_report(CALL_REPORT, &r, 0, 2, (oracle_answer){1, 1, 2}, leaf + 2);
+    expect_report(CALL_PLAIN_REPORT, &r, 0, 1, (oracle_answer){1, 1, 1}, plain_leaf + 1);
+    printf("reports of granted copies: 10 agree\n");
+}
+
 // ---- names (02, Item 1)
 
 typedef struct { const char *name, *hex; uint64_t copy; oracle_answer want; } naming;
@@ -228,6 +293,8 @@ static const naming namings[] = {
     {"named before a rule is", "11 00 51 " ARCHIVE " 12 01 51 " MIRROR " 21", 0, AT(3)},
     {"a copy behind a named rule", "12 00 51 " MIRROR " 11 01 51 " ARCHIVE " 21", 0, AT(22)},
     {"the newest, not the copy in the newest part", "11 00 11 01 11 02 21 21 51 " ARCHIVE, 2, AT(9)},
+    {"a granted copy", "13 00 51 " ARCHIVE, 0, AT(3)},
+    {"a granted copy behind a join", "11 00 13 01 21 51 " ARCHIVE, 1, AT(6)},
     {"all named, copy 0", NAMED, 0, AT(20)},
     {"all named, copy 1", NAMED, 1, AT(40)},
     {"all named, copy 2", NAMED, 2, NAMELESS},
@@ -380,6 +447,14 @@ static size_t leaves(uint8_t *sheet, unsigned atoms, unsigned rules, unsigned ap
     return n;
 }
 
+// Makes every second copy of a sheet without faults a granted one, from the copy with the number given on.
+static void grant(uint8_t *sheet, size_t sheet_len, unsigned first)
+{
+    unsigned copies = 0;
+    for (size_t at = 0; at < sheet_len; at = policy_command_at(sheet, at).next)
+        if (sheet[at] == 0x11 && copies++ % 2 == first) sheet[at] = 0x13;
+}
+
 // Seventeen copies, each joined to those before it and named fourteen times: just 4096 bytes. No two names are alike.
 static size_t full_of_names(uint8_t *sheet)
 {
@@ -418,6 +493,17 @@ static void try_limits(void)
     expect_both(&r, "63 copies", (oracle_answer)YES(0));
     r.sheet_len = leaves(sheet, 64, 0, 0);
     expect_both(&r, "64 copies", (oracle_answer)REFUSED(9, 188));
+    for (unsigned first = 0; first < 2; first++) { // the 64th is 11, or 13
+        r.sheet_len = leaves(sheet, 63, 0, 0);
+        grant(sheet, r.sheet_len, first);
+        expect_both(&r, "63 copies, half of them granted", (oracle_answer)YES(0));
+        r.sheet_len = leaves(sheet, 64, 0, 0);
+        grant(sheet, r.sheet_len, first);
+        expect_both(&r, "64 copies, half of them granted", (oracle_answer)REFUSED(9, 188));
+        r.sheet_len = leaves(sheet, 64, 0, 8);
+        grant(sheet, r.sheet_len, first);
+        expect_both(&r, "64th copy, half of them granted, ninth part", (oracle_answer)REFUSED(9, r.sheet_len - 2));
+    }
     r.sheet_len = leaves(sheet, 1, 256, 0);
     expect_both(&r, "256 rules", (oracle_answer)NO);
     r.sheet_len = leaves(sheet, 0, 257, 0);
@@ -444,7 +530,7 @@ static void try_limits(void)
     sheet[4096] = 0x51;
     r.sheet_len = 4097;
     expect_both(&r, "overlong by names", (oracle_answer)REFUSED(1, 0));
-    printf("limits of a sheet: 26 agree\n");
+    printf("limits of a sheet: 38 agree\n");
 }
 
 // ---- the room (02, Item 8): an area for each of the parts at once, and one more
@@ -525,6 +611,7 @@ int main(void)
     calls_begin();
     try_sheets();
     try_listed_reports();
+    try_granted_reports();
     try_namings();
     try_name_slices();
     try_cut_names();

@@ -54,6 +54,9 @@ expect 0 'yes: the first grounded plan keeps these copies: 0' "$host" listed.hex
 expect 0 'yes: the first grounded plan keeps these copies: 1' "$host" "$sheets/either_of_two.hex"
 expect 0 'yes: the first grounded plan keeps these copies: 0' "$host" "$sheets/either_of_two.hex" -o 1
 expect 1 'no: no grounded plan obeys the pins; some plan' "$host" "$sheets/circle_ticked.hex"
+expect 0 'yes: the first grounded plan keeps these copies: 0 1' "$host" "$sheets/granted.hex"
+expect 0 'yes: the first grounded plan keeps these copies: none' "$host" "$sheets/granted.hex" -i none
+expect 0 'yes: the first grounded plan keeps these copies: 1' "$host" "$sheets/granted_bars.hex"
 expect 1 'no plan that obeys them even meets every rule' "$host" "$sheets/unmet_rule.hex"
 expect 2 'refused: 7 group at byte 2: an operand is over 9' "$host" "$sheets/refused_group.hex"
 expect 0 'Exit status: 0 yes, 1 no, 2 refused' "$host" --help
@@ -101,6 +104,7 @@ printf '!' >join.bin
 printf '1' >digit
 printf 'A\000' >cut.bin
 printf '\021\011' >tab.bin
+printf '\023\011' >granted.bin
 printf '11 00\000' >zero.hex
 printf '# a bell \007\n%s\n' "$listed" >bell.hex
 expect 6 'join.bin: raw bytes or hexadecimal text? It begins with byte 21, not as text' "$host" join.bin
@@ -115,6 +119,8 @@ expect 0 'bell.hex, read as hexadecimal text: 8 bytes' "$host" --hex bell.hex
 expect 0 'listed.bin, read as raw bytes: 8 bytes' "$host" listed.bin
 expect 2 'refused: 6 cut at byte 0' "$host" cut.bin
 expect 0 'tab.bin, read as raw bytes: 2 bytes' "$host" tab.bin
+expect 0 'yes: the first grounded plan keeps these copies: 0' "$host" -i 0 granted.bin
+expect 0 'granted.bin, read as raw bytes: 2 bytes' "$host" granted.bin
 expect 2 'listed.hex, read as raw bytes: 24 bytes' "$host" --raw listed.hex
 expect 3 'host: --hex: --raw and --hex exclude each other' "$host" --raw --hex listed.hex
 
@@ -192,6 +198,8 @@ expect 1 '0' sh -c '"$0" -p 1 "$1" | grep -cF "behind the name"' "$host" "$sheet
 expect 2 'refused: 6 cut at byte 19' "$host" "$sheets/refused_name.hex"
 expect 2 'pinned in: 0;' "$host" -i 0 "$sheets/refused_name.hex"
 expect 0 'a name may stand in quotes, as in 51 "archive"' "$host" --help
+echo '13 00 51 "partner"' >partner.hex
+expect 0 "$keeps 0 \"partner\"" "$host" -i 0 partner.hex
 called() { printf '11 00 51 %s 12 01 21 41 00 01\n' "$1" >called.hex; }
 called '"sixteen letters."'
 expect 0 "$keeps 0 \"sixteen letters.\"" "$host" called.hex

@@ -171,6 +171,7 @@ static void try_random(random_source *s, tally *n)
     r.plan_limit = 1 + random_below(s, 200);
     r.subset_limit = 1 + random_below(s, 200);
     r.sheet_len = random_parts(s, sheet, atoms, rules, labels);
+    if (random_below(s, 2)) random_grants(s, sheet, r.sheet_len);
     if (random_below(s, 2)) r.sheet_len = random_names(s, sheet, r.sheet_len);
     r.pins_in = random_mask(s, atoms, 8);
     r.pins_out = random_mask(s, atoms, 8) & ~r.pins_in;

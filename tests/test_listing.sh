@@ -58,6 +58,14 @@ table 2
 2098176 0
 ' ''
 
+printf '\023\000' | list
+expect '13 00, a granted copy' 'answer 1 0 0
+plain 1 0 0
+table 2
+1 0
+1024 0
+' ''
+
 { printf '\021'; sleep 0.2; printf '\011'; } | list
 expect '11 09, a byte at a time' 'answer 1 0 0
 plain 1 0 0

@@ -1,4 +1,4 @@
-// Decisions, reports and names on random sheets (sound, damaged, with names, with tight limits, with pins) against the oracle.
+// Decisions, reports and names on random sheets (sound, damaged, with granted copies, names, tight limits, pins) against the oracle.
 #include "calls.h"
 #include "random.h"
 
@@ -6,7 +6,7 @@
 #include <stdio.h>
 #include <stdlib.h>
 
-typedef struct { uint64_t sheets, calls, yes, no, reported, refused[19], ordered, short_answers, named, at_names, in_names; } tally;
+typedef struct { uint64_t sheets, calls, yes, no, reported, refused[19], ordered, short_answers, granted, named, at_names, in_names; } tally;
 
 static void count(tally *n, const oracle_request *r, oracle_answer a, bool is_report)
 {
@@ -34,6 +34,7 @@ static size_t random_sheet(random_source *s, uint8_t *sheet)
     if (atoms + rules == 0) return 0;
     size_t n = random_below(s, 2) ? random_parts(s, sheet, atoms, rules, 2 + random_below(s, POLICY_GROUPS - 1))
                                   : random_policy(s, sheet, atoms, rules, 1 + random_below(s, POLICY_GROUPS - 2));
+    if (random_below(s, 2)) random_grants(s, sheet, n);
     if (random_below(s, 2)) n = random_names(s, sheet, n);
     return random_below(s, 4) == 0 ? random_damage(s, sheet, n) : n;
 }
@@ -93,6 +94,14 @@ static void random_lengths(random_source *s, oracle_request *r)
     r->answer_len = choice < 4 ? choice % 3 : choice < 30 ? 3 + choice % 4 : 3;
 }
 
+// Whether the decision is another one where no copy is granted, the tables being as they are.
+static bool counts_grants(const oracle_request *r, oracle_history h, oracle_answer grounded)
+{
+    h.policy.granted = 0;
+    oracle_answer other = oracle_grounded(r, &h);
+    return other.kind != grounded.kind || other.value != grounded.value;
+}
+
 static void try_decisions(const oracle_request *r, const oracle_history *h, tally *n)
 {
     oracle_answer grounded = oracle_grounded(r, h), plain = oracle_plain(r, h);
@@ -102,6 +111,7 @@ static void try_decisions(const oracle_request *r, const oracle_history *h, tall
     count(n, r, plain, false);
     expect_unnamed(r, grounded, plain);
     n->named += expect_names(r);
+    n->granted += counts_grants(r, *h, grounded);
 }
 
 // The words that the report asked for needs, if it needs any.
@@ -175,13 +185,14 @@ static void print_tally(const tally *n)
     printf("\n");
     printf("  reports with a longer subset list before a shorter one: %" PRIu64 "; at a 51 %" PRIu64 ", inside its name %" PRIu64 "\n", n->ordered,
            n->at_names, n->in_names);
-    printf("  copies with a name: %" PRIu64 "\n", n->named);
+    printf("  copies with a name: %" PRIu64 "; decisions that hang on granted copies: %" PRIu64 "\n", n->named, n->granted);
 }
 
 // Every outcome must have come up, or the sheets test less than they seem to. 64 copies (9) are tried apart.
 static void check_tally(const tally *n)
 {
-    bool is_thin = n->yes < 100 || n->no < 100 || n->reported < 100 || n->ordered < 10 || n->named < 100 || n->at_names < 100 || n->in_names < 100;
+    bool is_thin = n->yes < 100 || n->no < 100 || n->reported < 100 || n->ordered < 10 || n->granted < 50;
+    if (n->named < 100 || n->at_names < 100 || n->in_names < 100) is_thin = true;
     for (unsigned k = 2; k <= 17; k++)
         if (k != 9 && n->refused[k] < 10) is_thin = true;
     if (!is_thin) return;

@@ -26,7 +26,7 @@ typedef struct {
     uint32_t *workspace_due;
 } walk;
 
-typedef struct { uint64_t walks, steps, passed, ended, full, damaged, others, records, refused, fulls, acted; } tally;
+typedef struct { uint64_t walks, steps, passed, granted, ended, full, damaged, others, records, refused, fulls, acted; } tally;
 
 // ---- what a call should do, by the oracle
 
@@ -407,6 +407,12 @@ static void random_limits(random_source *s, oracle_request *r, const oracle_hist
     r->workspace_len = need_of(r) + random_below(s, 10);
 }
 
+static void count_step(const policy_command *c, tally *n)
+{
+    n->passed += c->code == 0x51;
+    n->granted += c->code == 0x13;
+}
+
 static void run_walk(random_source *s, walk *w, const oracle_history *h, tally *n)
 {
     oracle_answer a = call_and_compare(w, START, &w->r);
@@ -415,7 +421,7 @@ static void run_walk(random_source *s, walk *w, const oracle_history *h, tally *
         if (random_below(s, 3) == 0) try_damage(s, w, n);
         if (steps < h->steps && random_below(s, 4) == 0) call_and_compare(w, VERDICT, &w->r); // 18: not at the end
         a = call_and_compare(w, STEP, &w->r);
-        if (a.kind == 3) n->passed += h->step[steps].command.code == 0x51, compare_meaning(w, h, ++steps);
+        if (a.kind == 3) count_step(&h->step[steps].command, n), compare_meaning(w, h, ++steps);
         n->steps++;
     }
     if (a.kind == 2 || a.kind == 4) call_and_compare(w, STEP, &w->r); // the same again
@@ -430,6 +436,7 @@ static void try_walk(random_source *s, tally *n)
     oracle_request r = {sheet, 0, 1024, 1024, 0, 0, SIZE_MAX, 0, 0, 3 + random_below(s, 2)};
     r.sheet_len = random_below(s, 2) ? random_parts(s, sheet, atoms, rules, 2 + random_below(s, POLICY_GROUPS - 1))
                                      : random_policy(s, sheet, atoms, rules, 1 + random_below(s, POLICY_GROUPS - 2));
+    if (random_below(s, 2)) random_grants(s, sheet, r.sheet_len);
     if (random_below(s, 2)) r.sheet_len = random_names(s, sheet, r.sheet_len);
     if (random_below(s, 3) == 0) r.pins_in = random_mask(s, atoms, 4);
     if (random_below(s, 3) == 0) r.pins_out = random_mask(s, atoms, 4) & ~r.pins_in;
@@ -447,6 +454,7 @@ static void try_refused_start(random_source *s)
 {
     uint8_t sheet[RANDOM_SHEET_ROOM];
     oracle_request r = {sheet, random_policy(s, sheet, 3, 2, 3), 8, 8, 0, 0, 0, 0, 0, 3};
+    if (random_below(s, 2)) random_grants(s, sheet, r.sheet_len);
     if (random_below(s, 2)) r.sheet_len = random_names(s, sheet, r.sheet_len);
     r.workspace_len = need_of(&r);
     if (random_below(s, 2)) r.sheet_len = random_damage(s, sheet, r.sheet_len);
@@ -470,11 +478,11 @@ int main(int arguments, char **argument)
     for (case_number = 0; case_number < walks; case_number++) try_walk(&s, &n);
     case_name = "refused start";
     for (case_number = 0; case_number < walks; case_number++) try_refused_start(&s);
-    printf("walks %" PRIu64 ": ended %" PRIu64 ", full %" PRIu64 "; steps %" PRIu64 ", over names %" PRIu64 "\n", n.walks, n.ended, n.full, n.steps,
-           n.passed);
+    printf("walks %" PRIu64 ": ended %" PRIu64 ", full %" PRIu64 "; steps %" PRIu64 ", over names %" PRIu64 ", over granted copies %" PRIu64 "\n",
+           n.walks, n.ended, n.full, n.steps, n.passed, n.granted);
     printf("damaged records and workspaces %" PRIu64 ", other arguments %" PRIu64 ": [18] %" PRIu64 ", [15] or [16] %" PRIu64
            ", [1] to [13] %" PRIu64 ", acted on %" PRIu64 "\n", n.damaged, n.others, n.records, n.fulls, n.refused, n.acted);
-    if (n.ended < 100 || n.full < 100 || n.passed < 100 || n.records < 100 || n.fulls < 10 || n.refused < 100 || n.acted < 100) {
+    if (n.ended < 100 || n.full < 100 || n.passed < 100 || n.granted < 100 || n.records < 100 || n.fulls < 10 || n.refused < 100 || n.acted < 100) {
         printf("some outcome came up too seldom\n");
         return 1;
     }
