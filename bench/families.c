@@ -161,11 +161,9 @@ static void named(instance **next, const char *family, const instance *from, uns
 static void granted(instance **next, const char *family, const instance *from)
 {
     instance *x = (*next)++;
-    unsigned copies = 0;
     *x = *from;
     x->family = family;
-    for (size_t at = 0; at < x->sheet_len; at = policy_command_at(x->sheet, at).next)
-        if (x->sheet[at] == 0x11 && copies++ % 2 == 0) x->sheet[at] = 0x13;
+    policy_grant_half(x->sheet, x->sheet_len, 0);
 }
 
 // ---- saturation: the reduction of a quantified formula, over 30 pairs of copies and one copy w

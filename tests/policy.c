@@ -176,6 +176,13 @@ bool policy_is_answer_set(const policy *p, uint64_t x)
     return true;
 }
 
+void policy_grant_half(uint8_t *sheet, size_t sheet_len, unsigned first)
+{
+    unsigned copies = 0;
+    for (size_t at = 0; at < sheet_len; at = policy_command_at(sheet, at).next)
+        if (sheet[at] == 0x11 && copies++ % 2 == first) sheet[at] = 0x13;
+}
+
 bool policy_obeys(uint64_t x, uint64_t pins_in, uint64_t pins_out)
 {
     return (pins_in & ~x) == 0 && (pins_out & x) == 0;

@@ -34,6 +34,9 @@ void policy_build(policy *p, const uint8_t *sheet, size_t sheet_len);
 // The commands of such a sheet, or the first of them, without the names: how many bytes they have.
 size_t policy_unnamed(uint8_t *to, const uint8_t *sheet, size_t sheet_len);
 
+// Makes every second copy of such a sheet a granted one, from the copy with the number given (0 or 1) on.
+void policy_grant_half(uint8_t *sheet, size_t sheet_len, unsigned first);
+
 bool policy_obeys(uint64_t interpretation, uint64_t pins_in, uint64_t pins_out);
 bool policy_is_model(const policy *p, uint64_t interpretation);
 bool policy_is_answer_set(const policy *p, uint64_t interpretation);

@@ -447,14 +447,6 @@ static size_t leaves(uint8_t *sheet, unsigned atoms, unsigned rules, unsigned ap
     return n;
 }
 
-// Makes every second copy of a sheet without faults a granted one, from the copy with the number given on.
-static void grant(uint8_t *sheet, size_t sheet_len, unsigned first)
-{
-    unsigned copies = 0;
-    for (size_t at = 0; at < sheet_len; at = policy_command_at(sheet, at).next)
-        if (sheet[at] == 0x11 && copies++ % 2 == first) sheet[at] = 0x13;
-}
-
 // Seventeen copies, each joined to those before it and named fourteen times: just 4096 bytes. No two names are alike.
 static size_t full_of_names(uint8_t *sheet)
 {
@@ -495,13 +487,13 @@ static void try_limits(void)
     expect_both(&r, "64 copies", (oracle_answer)REFUSED(9, 188));
     for (unsigned first = 0; first < 2; first++) { // the 64th is 11, or 13
         r.sheet_len = leaves(sheet, 63, 0, 0);
-        grant(sheet, r.sheet_len, first);
+        policy_grant_half(sheet, r.sheet_len, first);
         expect_both(&r, "63 copies, half of them granted", (oracle_answer)YES(0));
         r.sheet_len = leaves(sheet, 64, 0, 0);
-        grant(sheet, r.sheet_len, first);
+        policy_grant_half(sheet, r.sheet_len, first);
         expect_both(&r, "64 copies, half of them granted", (oracle_answer)REFUSED(9, 188));
         r.sheet_len = leaves(sheet, 64, 0, 8);
-        grant(sheet, r.sheet_len, first);
+        policy_grant_half(sheet, r.sheet_len, first);
         expect_both(&r, "64th copy, half of them granted, ninth part", (oracle_answer)REFUSED(9, r.sheet_len - 2));
     }
     r.sheet_len = leaves(sheet, 1, 256, 0);
