@@ -7,7 +7,8 @@ use Prim.Native.Nat.{ℕ, zero, suc, _+_, zero-le}
 use lib.Dec.{ltb}
 use lib.ListN.{length, length-map}
 use borrow.Author.Tests.{le-ltb}
-use Rattle.lists.specs.Lists.{some}
+use Rattle.lists.specs.Lists.{All, some}
+use Rattle.expression.specs.declared.Command.{Command}
 use Rattle.expression.specs.declared.Counts.{Counts}
 use Rattle.expression.specs.declared.Checked.the-variants.{Passed, Refused}
 use Rattle.expression.specs.Refusals.{subsetsFull, plansFull}
@@ -20,6 +21,7 @@ use Rattle.tables.specs.Triples.{allMet}
 use Rattle.tables.specs.Definitions.{Pair, ownTriple, subsets, triples, pairs, flat, plainAccepts, accepting, groundedAccepts}
 use Rattle.tables.proofs.Answers.{pairs-lawful}
 use Rattle.semantics.proofs.Homomorphisms.{Homomorphism, act-map}
+use Rattle.semantics.proofs.Readings.{commandsOf}
 use Rattle.tables.proofs.Morphisms.{Morphism, tables-map, single, single-morphism}
 use Rattle.values.specs.declared.Value.{Value}
 use Rattle.values.specs.Values.{Values, Valued, valued, lowWords, lowered}
@@ -57,6 +59,20 @@ walk-map {X} {Y} {h} {B} {C} H f n (c ∷ cs) ts =
         ≡ mapWalked h (elim k as (λ x. Walked X) [ zero ↦ walk B (λ t. f (map h t)) (n + newAtoms (c .command)) cs us | suc m ↦ stopped (suc m) (c .place) ])
     step zero k = k
     step (suc m) k = refl
+
+-- operations that do the same by every command of a walk make the same walk
+pub walk-alike : {X : Type 0} (B C : Operations (List X)) (P : Command → Type 0) → ((n : ℕ) (c : Command) → P c → (ts : List (List X)) → act B n c ts ≡ act C n c ts)
+    → (f : List X → ℕ) (n : ℕ) (cs : List Placed) → All P (commandsOf cs) → (ts : List (List X)) → walk B f n cs ts ≡ walk C f n cs ts
+unfolding walk
+walk-alike B C P e f n [] h ts = refl
+walk-alike {X} B C P e f n (c ∷ cs) h ts =
+    ap (λ us. goes us (walk B f (n + newAtoms (c .command)) cs us)) (e n (c .command) (h .0) ts) ∙ ap (goes vs) (walk-alike B C P e f (n + newAtoms (c .command)) cs (h .1) vs)
+  where
+    vs : List (List X)
+    vs = act C n (c .command) ts
+
+    goes : List (List X) → Walked X → Walked X
+    goes us w = elim (f (newest us)) as (λ x. Walked X) [ zero ↦ w | suc m ↦ stopped (suc m) (c .place) ]
 
 pub conclude-map : {X Y : Type 0} (h : X → Y) (y : List Y → Bool) (w : Walked X) → conclude y (mapWalked h w) ≡ conclude (λ t. y (map h t)) w
 unfolding conclude mapWalked

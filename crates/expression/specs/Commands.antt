@@ -35,7 +35,7 @@ operandCount b = cond (twoOperands b) 2 (cond (oneOperand b) 1 0)
 abbrev pub tailLength : ℕ → ℕ
 tailLength b = cond (isName b) nameLength (operandCount b)
 
--- an atom of label x
+-- an atom of a role and of label x
 abbrev pub atomOf : Role → ℕ → Command
 atomOf r x = Atom (record { label = x; role = r })
 

@@ -1,10 +1,10 @@
 -- AN EXPRESSION WITHOUT 13 IS WHAT IT WAS (02, Item 9): its bytes are read as before, each command makes the same tables, and the verdict, the first plan and the
 -- answer sets are the same. Assumes nothing.
-use mathlib.Core.Path.{_≡_, refl, ap, ap₂, _∙_, subst}
+use mathlib.Core.Path.{_≡_, refl, ap, ap₂, subst}
 use mathlib.Core.Logic.{_↔_}
 use mathlib.Core.Bool.{or-false}
 use mathlib.Core.List.{List, [], _∷_, _++_, List·Memᴰ, List·Memᴰ·not-nil}
-use Prim.Native.Nat.{ℕ, zero, suc, _+_}
+use Prim.Native.Nat.{ℕ}
 use lib.Dec.{eqb}
 use borrow.Author.Tests.{ne-eqb}
 use Rattle.lists.specs.Lists.{All}
@@ -14,17 +14,19 @@ use Rattle.expression.specs.declared.Command.{Command}
 use Rattle.expression.specs.declared.Command.the-variants.{Atom, Rule, Union, Relabel, Connect, Name}
 use Rattle.expression.specs.declared.Checked.the-variants.{Passed, Refused}
 use Rattle.expression.specs.Commands.{oneOperand, commandOf}
-use Rattle.expression.specs.Reading.{newAtoms, Placed, reading}
+use Rattle.expression.specs.Reading.{reading}
 use Rattle.expression.specs.Checks.{Request, check}
 use Rattle.semantics.specs.Expressions.{Expr, uniteNewest, changeNewest, act, actAll, trees}
 use Rattle.semantics.specs.Programs.{externals}
 use Rattle.semantics.specs.AnswerSets.{Interpretation, Assumptions, AnswerSet}
+use Rattle.semantics.proofs.Stacks.{all-act}
 use Rattle.semantics.proofs.Readings.{commandsOf}
-use Rattle.tables.specs.Algebras.{Algebra, leaf, tables}
+use Rattle.tables.specs.Algebras.{leaf, tables}
 use Rattle.tables.specs.Definitions.{Pair, triples, pairs, groundedAccepts}
-use Rattle.decisions.specs.Decisions.{assumed, commandsIn, pairsFault, newest, Walked, stopped, walk, conclude, refused, decide, grounded, firstTree, treeOf, expressionOf}
+use Rattle.decisions.specs.Decisions.{assumed, commandsIn, pairsFault, conclude, refused, decide, grounded, firstTree, treeOf, expressionOf}
 use Rattle.decisions.specs.First.{leaving, keeping, chosen, firstMask}
 use Rattle.decisions.specs.Outcomes.{withMask, groundedOutcome}
+use Rattle.decisions.proofs.Carried.{walk-alike}
 use Rattle.external.specs.Before.{NoExternal, NoneExternal, oneOperandBefore, commandOfBefore, pairsBefore, AnswerSetBefore, groundedBefore, chosenBefore, outcomeBefore}
 
 -- ---- bytes: a command is read by these two alone
@@ -49,20 +51,6 @@ module _ (K : ℕ) (o : Assumptions) where
   act-before n (Connect k i j) e ts = refl
   act-before n (Name at) e ts = refl
 
-  -- the table after every command, and where one stops
-  walk-before : (f : List Pair → ℕ) (n : ℕ) (cs : List Placed) → All (λ p. NoExternal (p .command)) cs → (ts : List (List Pair))
-      → walk (tables (pairs K) o) f n cs ts ≡ walk (tables (pairsBefore K) o) f n cs ts
-  unfolding walk
-  walk-before f n [] h ts = refl
-  walk-before f n (c ∷ cs) h ts =
-      let us = act (tables (pairsBefore K) o) n (c .command) ts in
-      ap (after (pairs K)) (act-before n (c .command) (h .0) ts)
-      ∙ ap {B = Walked Pair} (λ w. elim (f (newest us)) [ zero ↦ w | suc k ↦ stopped (suc k) (c .place) ]) (walk-before f (n + newAtoms (c .command)) cs (h .1) us)
-    where
-      -- from the tables behind the first command on
-      after : Algebra Pair → List (List Pair) → Walked Pair
-      after A us = elim (f (newest us)) [ zero ↦ walk (tables A o) f (n + newAtoms (c .command)) cs us | suc k ↦ stopped (suc k) (c .place) ]
-
 -- in plain tables the role counts for nothing
 pub plain-alike : (K c : ℕ) (a b : NewAtom) → a .label ≡ b .label → (triples K .present c a ≡ triples K .present c b) × (triples K .absent c a ≡ triples K .absent c b)
 unfolding triples
@@ -75,7 +63,8 @@ module _ (K : ℕ) where
   unfolding grounded groundedBefore decide
   grounded-before a h =
       ap (λ w. elim (check K a) [ Passed z ↦ conclude (groundedAccepts K) w | Refused n at ↦ refused n at ])
-      (walk-before K (assumed a) (pairsFault (a .pairLimit) (a .subsetLimit)) 0 (commandsIn (reading K (a .bytes))) h [])
+      (walk-alike (tables (pairs K) (assumed a)) (tables (pairsBefore K) (assumed a)) NoExternal (act-before K (assumed a))
+      (pairsFault (a .pairLimit) (a .subsetLimit)) 0 (commandsIn (reading K (a .bytes))) h [])
 
   chosen-before : (a : Request) → NoneExternal K (a .bytes) → (cs : List ℕ) → chosen K a cs ≡ chosenBefore K a cs
   unfolding chosen chosenBefore
@@ -91,23 +80,18 @@ module _ (K : ℕ) where
 abbrev AllDerived : Expr → Type 0
 AllDerived e = externals e ≡ []
 
-act-derived : (n : ℕ) (c : Command) → NoExternal c → (es : List Expr) → All AllDerived es → All AllDerived (act trees n c es)
+act-derived : (n : ℕ) (c : Command) (es : List Expr) → NoExternal c → All AllDerived es → All AllDerived (act trees n c es)
 unfolding act trees uniteNewest changeNewest externals
-act-derived n (Atom a) e es h = (rw e refl, h)
-act-derived n (Rule g) e es h = (refl, h)
-act-derived n Union e [] h = h
-act-derived n Union e (b ∷ []) h = h
-act-derived n Union e (b ∷ a ∷ es) h = (ap₂ _++_ (h .1 .0) (h .0), h .1 .1)
-act-derived n (Relabel i j) e [] h = h
-act-derived n (Relabel i j) e (b ∷ es) h = h
-act-derived n (Connect k i j) e [] h = h
-act-derived n (Connect k i j) e (b ∷ es) h = h
-act-derived n (Name at) e es h = h
-
-all-derived : (n : ℕ) (cs : List Placed) → All (λ p. NoExternal (p .command)) cs → (es : List Expr) → All AllDerived es → All AllDerived (actAll trees n (commandsOf cs) es)
-unfolding actAll
-all-derived n [] h es k = k
-all-derived n (c ∷ cs) h es k = all-derived (n + newAtoms (c .command)) cs (h .1) (act trees n (c .command) es) (act-derived n (c .command) (h .0) es k)
+act-derived n (Atom a) es e h = (rw e refl, h)
+act-derived n (Rule g) es e h = (refl, h)
+act-derived n Union [] e h = h
+act-derived n Union (b ∷ []) e h = h
+act-derived n Union (b ∷ a ∷ es) e h = (ap₂ _++_ (h .1 .0) (h .0), h .1 .1)
+act-derived n (Relabel i j) [] e h = h
+act-derived n (Relabel i j) (b ∷ es) e h = h
+act-derived n (Connect k i j) [] e h = h
+act-derived n (Connect k i j) (b ∷ es) e h = h
+act-derived n (Name at) es e h = h
 
 first-derived : (es : List Expr) → All AllDerived es → AllDerived (firstTree es)
 unfolding externals
@@ -124,5 +108,5 @@ derived-before e h p = (
 pub answerSet-before : (K : ℕ) (s : List ℕ) → NoneExternal K s → (p : Interpretation) → AnswerSet (expressionOf K s) p ↔ AnswerSetBefore (expressionOf K s) p
 unfolding expressionOf treeOf
 answerSet-before K s h =
-    let cs = commandsIn (reading K s) in
-    derived-before (expressionOf K s) (first-derived (actAll trees 0 (commandsOf cs) []) (all-derived 0 cs h [] tt))
+    let cs = commandsOf (commandsIn (reading K s)) in
+    derived-before (expressionOf K s) (first-derived (actAll trees 0 cs []) (all-act trees NoExternal AllDerived act-derived 0 cs [] h tt))

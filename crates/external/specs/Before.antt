@@ -2,7 +2,7 @@
 -- nothing.
 use mathlib.Core.Path.{_≡_}
 use mathlib.Core.Bool.{Bool, true, false, cond, _||_}
-use mathlib.Core.List.{List, [], _∷_}
+use mathlib.Core.List.{List, [], _∷_, map}
 use Prim.Native.Nat.{ℕ, _^_}
 use lib.Bits.{bitOr}
 use lib.Dec.{eqb}
@@ -36,7 +36,7 @@ NoExternal (Connect k i j) = Unit {0}
 NoExternal (Name at) = Unit {0}
 
 abbrev pub NoneExternal : ℕ → List ℕ → Type 0
-NoneExternal K s = All (λ p. NoExternal (p .command)) (commandsIn (reading K s))
+NoneExternal K s = All NoExternal (map (λ p. p .command) (commandsIn (reading K s)))
 
 -- ---- from before
 

@@ -76,10 +76,15 @@ chain-act n (Connect l i j) [] k = add-zero n ∙ k
 chain-act n (Connect l i j) (e ∷ es) k = rw add-zero k
 chain-act n (Name at) es k = subst (Chain es) (sym (add-zero n)) k
 
-pub fits-all : (K n : ℕ) (cs : List Command) (es : List Expr) → All (Suits K) cs → All (Fits K) es → All (Fits K) (actAll trees n cs es)
+-- what each of the commands keeps true of every operand, all of them do
+pub all-act : {Y : Type 0} (B : Operations Y) (P : Command → Type 0) (Q : Y → Type 0) → ((n : ℕ) (c : Command) (ys : List Y) → P c → All Q ys → All Q (act B n c ys))
+    → (n : ℕ) (cs : List Command) (ys : List Y) → All P cs → All Q ys → All Q (actAll B n cs ys)
 unfolding actAll
-fits-all K n [] es h k = k
-fits-all K n (c ∷ cs) es h k = fits-all K (n + newAtoms c) cs (act trees n c es) (h .1) (fits-act K n c es (h .0) k)
+all-act B P Q f n [] ys h k = k
+all-act B P Q f n (c ∷ cs) ys h k = all-act B P Q f (n + newAtoms c) cs (act B n c ys) (h .1) (f n c ys (h .0) k)
+
+pub fits-all : (K n : ℕ) (cs : List Command) (es : List Expr) → All (Suits K) cs → All (Fits K) es → All (Fits K) (actAll trees n cs es)
+fits-all K = all-act trees (Suits K) (Fits K) (fits-act K)
 
 -- how many atoms n and the commands make
 unfoldable pub atomsAfter : ℕ → List Command → ℕ

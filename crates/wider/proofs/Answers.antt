@@ -3,7 +3,7 @@
 use mathlib.Core.Path.{_≡_, refl, sym, ap, ap₂, _∙_, fun-ext}
 use mathlib.Core.Bool.{Bool, cond, not, _&&_, _||_}
 use mathlib.Core.List.{List, [], _∷_, map}
-use Prim.Native.Nat.{ℕ, zero, suc, _+_, _≤_}
+use Prim.Native.Nat.{ℕ, zero, suc, _≤_}
 use native.Mathlib.Omega.{arith}
 use lib.Dec.{ltb}
 use lib.ListN.{length, length-map, take}
@@ -14,7 +14,7 @@ use Rattle.expression.specs.declared.Checked.{Checked}
 use Rattle.expression.specs.declared.Checked.the-variants.{Passed, Refused}
 use Rattle.expression.specs.Refusals.{group, subsetsFull, plansFull}
 use Rattle.expression.specs.Commands.{Suits}
-use Rattle.expression.specs.Reading.{newAtoms, Placed, Reading, reading}
+use Rattle.expression.specs.Reading.{Placed, Reading, reading}
 use Rattle.expression.specs.Checks.{Request, firstOf, countsOf, checks, check}
 use Rattle.semantics.specs.Expressions.{act, actAll}
 use Rattle.semantics.specs.Programs.{numbers}
@@ -24,11 +24,11 @@ use Rattle.tables.specs.Algebras.{Algebra, tables}
 use Rattle.tables.specs.Triples.{allMet}
 use Rattle.tables.specs.Definitions.{Pair, ownTriple, subsets, pairs, plainAccepts, accepting, groundedAccepts}
 use Rattle.tables.proofs.Morphisms.{tables-map}
-use Rattle.decisions.specs.Decisions.{assumed, commandsIn, pairsFault, plainFault, newest, Walked, stopped, walk, conclude, decide, grounded, plain, treeOf, expressionOf}
+use Rattle.decisions.specs.Decisions.{assumed, commandsIn, pairsFault, plainFault, newest, Walked, walk, conclude, decide, grounded, plain, treeOf, expressionOf}
 use Rattle.decisions.specs.First.{leaving, keeping, chosen, firstMask}
 use Rattle.decisions.specs.Outcomes.{withMask, withoutMask, groundedOutcome, plainOutcome}
 use Rattle.decisions.specs.Exceeding.{tableAfter}
-use Rattle.decisions.proofs.Carried.{mapWalked, newest-map, walk-map, conclude-map, decide-passed, grounded-refused}
+use Rattle.decisions.proofs.Carried.{mapWalked, newest-map, walk-map, walk-alike, conclude-map, decide-passed, grounded-refused}
 use Rattle.decisions.proofs.Walks.{commands-suit}
 use Rattle.wider.specs.Layouts.{labelsBefore, laidOut}
 use Rattle.wider.proofs.Checks.{check-wider, passed-wider}
@@ -37,25 +37,12 @@ use Rattle.wider.proofs.Laid.{laid-met, laid-own, laid-subsets, triples
 
 -- ---- walks by commands whose labels are below K
 
-walk-restricted : {X : Type 0} (K : ℕ) (none : X) (A : Algebra X) (o : Assumptions) (f : List X → ℕ) (n : ℕ) (cs : List Placed) → All (Suits K) (commandsOf cs)
-    → (ts : List (List X)) → walk (tables (restricted K none A) o) f n cs ts ≡ walk (tables A o) f n cs ts
-unfolding walk
-walk-restricted K none A o f n [] s ts = refl
-walk-restricted {X} K none A o f n (c ∷ cs) s ts =
-    ap (λ us. goes us (walk (tables (restricted K none A) o) f (n + newAtoms (c .command)) cs us)) (act-restricted K none A o n (c .command) (s .0) ts)
-    ∙ ap (goes vs) (walk-restricted K none A o f (n + newAtoms (c .command)) cs (s .1) vs)
-  where
-    vs : List (List X)
-    vs = act (tables A o) n (c .command) ts
-
-    goes : List (List X) → Walked X → Walked X
-    goes us w = elim (f (newest us)) as (λ x. Walked X) [ zero ↦ w | suc m ↦ stopped (suc m) (c .place) ]
-
 walk-carried : {X Y : Type 0} {K : ℕ} {A : Algebra X} {B : Algebra Y} {h : X → Y} → MorphismBelow K A B h → (o : Assumptions) (f : List Y → ℕ) (cs : List Placed)
     → All (Suits K) (commandsOf cs) → walk (tables B o) f 0 cs [] ≡ mapWalked h (walk (tables A o) (λ t. f (map h t)) 0 cs [])
 walk-carried {K = K} {A = A} {B = B} {h = h} M o f cs s =
-    sym (walk-restricted K (M .none′) B o f 0 cs s []) ∙ walk-map (tables-map (M .morphism) o) f 0 cs []
-    ∙ ap (mapWalked h) (walk-restricted K (M .none) A o (λ t. f (map h t)) 0 cs s [])
+    sym (walk-alike (tables (restricted K (M .none′) B) o) (tables B o) (Suits K) (act-restricted K (M .none′) B o) f 0 cs s [])
+    ∙ walk-map (tables-map (M .morphism) o) f 0 cs []
+    ∙ ap (mapWalked h) (walk-alike (tables (restricted K (M .none) A) o) (tables A o) (Suits K) (act-restricted K (M .none) A o) (λ t. f (map h t)) 0 cs s [])
 
 -- ---- a decision whose checks say the same over K labels and over L
 
