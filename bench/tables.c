@@ -251,6 +251,7 @@ unsigned run_command(state *s, const command *c)
 
 // ---- the commands on plain tables: a row is one triple
 
+// A plain row has no subsets, as a granted atom's has none.
 static unsigned push_plain_atom(state *s, unsigned label)
 {
     unsigned fault = push_atom(s, label, true);

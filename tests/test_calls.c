@@ -218,54 +218,51 @@ static void expect_report(call c, oracle_request *r, size_t asked, size_t report
     r->report_len = 0;
 }
 
-static void try_listed_reports(void)
+#define GRANTED_THEN_COPY "13 00 11 01 21"
+
+typedef struct { const char *hex; call call; uint64_t pins_in, pins_out; size_t asked, report_len; oracle_answer want; uint32_t words[10]; } reporting;
+
+static const reporting reportings[] = {
+    {LISTED, CALL_REPORT, 0, 0, 5, 5, {1, 2, 5}, {1, 1, 2098176, 2098176, 0}},
+    {LISTED, CALL_REPORT, 0, 0, 5, 9, {1, 2, 5}, {1, 1, 2098176, 2098176, 0}},
+    {LISTED, CALL_REPORT, 0, 0, 5, 4, REFUSED(17, 5), {0}},
+    {LISTED, CALL_REPORT, 0, 0, 5, 0, REFUSED(17, 5), {0}},
+    {LISTED, CALL_REPORT, 0, 0, 0, 5, {1, 2, 5}, {1, 1, 1024, 1024, 0}},
+    {LISTED, CALL_REPORT, 0, 0, 2, 2, {1, 1, 2}, {2097152, 0}},
+    {LISTED, CALL_REPORT, 0, 0, 1, 5, REFUSED(14, 1), {0}},
+    {LISTED, CALL_REPORT, 0, 0, 8, 5, REFUSED(14, 8), {0}},
+    {LISTED, CALL_REPORT, 0, 0, SIZE_MAX, 5, REFUSED(14, SIZE_MAX), {0}},
+    {LISTED, CALL_PLAIN_REPORT, 0, 0, 5, 2, {1, 2, 2}, {1, 2098176}},
+    {LISTED, CALL_PLAIN_REPORT, 0, 0, 5, 1, REFUSED(17, 5), {0}},
+    {LISTED, CALL_PLAIN_REPORT, 0, 0, 6, 2, REFUSED(14, 6), {0}},
+    {LISTED, CALL_REPORT, 2, 0, 1, 5, REFUSED(13, 8), {0}}, // 13 before 14
+    // 02, Item 9: the pairs of 11, both without subsets; joined with copy 1, which is not granted, the smaller plans leave out that one alone
+    {GRANTED_THEN_COPY, CALL_REPORT, 0, 0, 0, 4, {1, 2, 4}, {1, 0, 1024, 0}},
+    {GRANTED_THEN_COPY, CALL_REPORT, 0, 0, 0, 3, REFUSED(17, 0), {0}},
+    {GRANTED_THEN_COPY, CALL_PLAIN_REPORT, 0, 0, 0, 2, {1, 2, 2}, {1, 1024}},
+    {GRANTED_THEN_COPY, CALL_REPORT, 0, 0, 1, 4, REFUSED(14, 1), {0}},
+    {GRANTED_THEN_COPY, CALL_REPORT, 0, 0, 4, 10, {1, 4, 10}, {3, 1, 2049, 1026, 1, 3072, 2049, 0, 3072, 0}},
+    {GRANTED_THEN_COPY, CALL_PLAIN_REPORT, 0, 0, 4, 4, {1, 4, 4}, {3, 1026, 2049, 3072}},
+    {GRANTED_THEN_COPY, CALL_REPORT, 1, 0, 0, 2, {1, 1, 2}, {1, 0}},
+    {GRANTED_THEN_COPY, CALL_PLAIN_REPORT, 1, 0, 0, 1, {1, 1, 1}, {1}},
+    {GRANTED_THEN_COPY, CALL_REPORT, 0, 1, 0, 2, {1, 1, 2}, {1024, 0}},
+    {GRANTED_THEN_COPY, CALL_PLAIN_REPORT, 0, 1, 0, 1, {1, 1, 1}, {1024}},
+};
+
+static void try_report(const reporting *t)
 {
-    static const uint32_t last[] = {1, 1, 2098176, 2098176, 0}, leaf[] = {1, 1, 1024, 1024, 0}, rule[] = {2097152, 0};
-    static const uint32_t plain[] = {1, 2098176};
     uint8_t sheet[16];
-    oracle_request r = {sheet, read_hex(LISTED, sheet), 32, 32, 0, 0, 0, 0, 0, 3};
+    oracle_request r = {sheet, read_hex(t->hex, sheet), 32, 32, t->pins_in, t->pins_out, 0, 0, 0, 3};
     r.workspace_len = need_of(&r);
-    case_name = "reports of the listed sheet";
-    expect_report(CALL_REPORT, &r, 5, 5, (oracle_answer){1, 2, 5}, last);
-    expect_report(CALL_REPORT, &r, 5, 9, (oracle_answer){1, 2, 5}, last);
-    expect_report(CALL_REPORT, &r, 5, 4, (oracle_answer){2, 17, 5}, NULL);
-    expect_report(CALL_REPORT, &r, 5, 0, (oracle_answer){2, 17, 5}, NULL);
-    expect_report(CALL_REPORT, &r, 0, 5, (oracle_answer){1, 2, 5}, leaf);
-    expect_report(CALL_REPORT, &r, 2, 2, (oracle_answer){1, 1, 2}, rule);
-    expect_report(CALL_REPORT, &r, 1, 5, (oracle_answer){2, 14, 1}, NULL);
-    expect_report(CALL_REPORT, &r, 8, 5, (oracle_answer){2, 14, 8}, NULL);
-    expect_report(CALL_REPORT, &r, SIZE_MAX, 5, (oracle_answer){2, 14, SIZE_MAX}, NULL);
-    expect_report(CALL_PLAIN_REPORT, &r, 5, 2, (oracle_answer){1, 2, 2}, plain);
-    expect_report(CALL_PLAIN_REPORT, &r, 5, 1, (oracle_answer){2, 17, 5}, NULL);
-    expect_report(CALL_PLAIN_REPORT, &r, 6, 2, (oracle_answer){2, 14, 6}, NULL);
-    r.pins_in = 2; // 13 before 14
-    expect_report(CALL_REPORT, &r, 1, 5, (oracle_answer){2, 13, 8}, NULL);
-    printf("reports of the listed sheet: 13 agree\n");
+    expect_report(t->call, &r, t->asked, t->report_len, t->want, t->want.kind == 1 ? t->words : NULL);
 }
 
-// 02, Item 9: the pairs of 11, both without subsets; then joined with copy 1, which is not granted: smaller plans leave out that one alone.
-static void try_granted_reports(void)
+static void try_reports(void)
 {
-    static const uint32_t leaf[] = {1, 0, 1024, 0}, joined[] = {3, 1, 2049, 1026, 1, 3072, 2049, 0, 3072, 0};
-    static const uint32_t plain_leaf[] = {1, 1024}, plain_joined[] = {3, 1026, 2049, 3072};
-    uint8_t sheet[16];
-    oracle_request r = {sheet, read_hex("13 00 11 01 21", sheet), 32, 32, 0, 0, 0, 0, 0, 3};
-    r.workspace_len = need_of(&r);
-    case_name = "reports of granted copies";
-    expect_report(CALL_REPORT, &r, 0, 4, (oracle_answer){1, 2, 4}, leaf);
-    expect_report(CALL_REPORT, &r, 0, 3, (oracle_answer){2, 17, 0}, NULL);
-    expect_report(CALL_PLAIN_REPORT, &r, 0, 2, (oracle_answer){1, 2, 2}, plain_leaf);
-    expect_report(CALL_REPORT, &r, 1, 4, (oracle_answer){2, 14, 1}, NULL);
-    expect_report(CALL_REPORT, &r, 4, 10, (oracle_answer){1, 4, 10}, joined);
-    expect_report(CALL_PLAIN_REPORT, &r, 4, 4, (oracle_answer){1, 4, 4}, plain_joined);
-    r.pins_in = 1;
-    expect_report(CALL_REPORT, &r, 0, 2, (oracle_answer){1, 1, 2}, leaf);
-    expect_report(CALL_PLAIN_REPORT, &r, 0, 1, (oracle_answer){1, 1, 1}, plain_leaf);
-    r.pins_in = 0;
-    r.pins_out = 1;
-    expect_report(CALL_REPORT, &r, 0, 2, (oracle_answer){1, 1, 2}, leaf + 2);
-    expect_report(CALL_PLAIN_REPORT, &r, 0, 1, (oracle_answer){1, 1, 1}, plain_leaf + 1);
-    printf("reports of granted copies: 10 agree\n");
+    size_t n = sizeof reportings / sizeof reportings[0];
+    case_name = "reports of listed sheets";
+    for (case_number = 0; case_number < n; case_number++) try_report(&reportings[case_number]);
+    printf("%s: %zu agree\n", case_name, n);
 }
 
 // ---- names (02, Item 1)
@@ -602,8 +599,7 @@ int main(void)
 {
     calls_begin();
     try_sheets();
-    try_listed_reports();
-    try_granted_reports();
+    try_reports();
     try_namings();
     try_name_slices();
     try_cut_names();
