@@ -92,12 +92,22 @@ static const char *const names[WAYS] = {"the archive", "the older archive", "the
 
 static bool has_old;
 
-// An older archive may lack a command: then it is not there for the family.
+// Whether links of the older archive have a direction: then it says no to a rule in a link's first group that makes a copy in its second.
+static bool is_old_directed(void)
+{
+    static const instance behind = {"", {0x12, 0x00, 0x11, 0x01, 0x21, 0x41, 0x00, 0x01}, 8, 2, 1, 0, 0};
+    uint64_t plan;
+    return by_call(old_grounded, &behind, &plan) != 1;
+}
+
+// An older archive may lack a command, or take links one way that go both: then it is not there for the family.
 static bool old_reads(const instance *x, size_t n)
 {
     uint64_t plan;
-    for (size_t k = 0; old_grounded && k < n; k++)
+    for (size_t k = 0; old_grounded && k < n; k++) {
         if (by_call(old_grounded, &x[k], &plan) == -NUNTENNIS_UNKNOWN) return false;
+        if (is_old_directed() && policy_has_link_back(x[k].sheet, x[k].sheet_len)) return false;
+    }
     return old_grounded != NULL;
 }
 

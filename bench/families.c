@@ -243,6 +243,35 @@ static void random_policy(instance **next, const char *family, unsigned copies, 
     }
 }
 
+// ---- both ways: groups that hold copies and rules, so that a link of two of them puts copies of either into rules of the other
+
+static void link_with_other(instance *x, unsigned code, unsigned group, unsigned groups)
+{
+    put_link(x, code, group, (group + 1 + random_below(groups - 1)) % groups);
+}
+
+// A rule in one of the groups, then a head link of this group with another, and one or two more.
+static void rule_among_copies(instance *x, unsigned groups, unsigned codes)
+{
+    unsigned group = random_below(groups);
+    add_leaf(x, 0x12, group);
+    link_with_other(x, HEAD, group, groups);
+    for (unsigned k = 1 + random_below(2); k > 0; k--) link_with_other(x, HEAD + random_below(codes), group, groups);
+}
+
+// A chain whose rules stand in the groups of the copies kept, and move with them.
+static void both_ways(instance **next, const char *family, unsigned kept, unsigned codes, uint64_t seed)
+{
+    instance *x = begin(next, family, 256, 64);
+    random_state = seed;
+    unsigned rules = 0;
+    for (unsigned c = 0; c < 63; c++) {
+        if (c >= kept) move(x, c % kept, REST);
+        copy(x, c % kept);
+        for (; c + 1 >= kept && rules < (c + 1) * 256 / 63; rules++) rule_among_copies(x, kept, codes);
+    }
+}
+
 // ---- balanced joins: two halves that share groups
 
 static void half(instance *x, unsigned groups, unsigned each)
@@ -369,6 +398,7 @@ size_t all_families(instance *instances)
     for (uint64_t seed = 1; seed <= 8; seed++) random_policy(&next, "random, 12 copies", 12, seed);
     for (uint64_t seed = 1; seed <= 8; seed++) random_policy(&next, "random, 24 copies", 24, seed);
     for (uint64_t seed = 1; seed <= 8; seed++) random_policy(&next, "random, 40 copies", 40, seed);
+    for (uint64_t seed = 1; seed <= 4; seed++) both_ways(&next, "both ways, 3 groups kept", 3, 2 + seed % 2, seed);
     balanced(&next, "balanced join, 128 by 32 pairs", 7, 5, 1);
     balanced(&next, "balanced join, 243 by 243 pairs", 5, 5, 2);
     moves(&next, "moves of groups, 128 pairs", 8, 1024, 1);

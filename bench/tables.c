@@ -12,7 +12,7 @@ void tables_begin(state *s, unsigned parts, size_t pair_limit, size_t subset_lim
     s->assumed_false = assumed_false;
     s->atoms = s->depth = 0;
     s->parts = parts;
-    for (size_t t = 0; t <= parts; t++) s->tables[t] = (table){workspace + t * pair_limit * s->width, s->first[t], 0};
+    for (size_t t = 0; t <= parts; t++) s->tables[t] = (table){workspace + t * pair_limit * s->width, s->first[t], 0, 0};
     memset(s->seen.slots, 0, sizeof s->seen.slots);
     s->seen.stamp = 0;
 }
@@ -83,6 +83,7 @@ static unsigned push_atom(state *s, unsigned label, bool is_granted)
     table *t = &s->tables[s->depth++];
     uint32_t in = 1u << label, out = 1u << (LABELS + label);
     t->count = 0;
+    t->marks = in | out;
     if (can_be_true) put_row(t, s->width, in, is_granted ? NULL : &out, (uint64_t)1 << (62 - s->atoms));
     if (can_be_false) put_row(t, s->width, out, NULL, 0);
     s->atoms++;
@@ -93,7 +94,8 @@ static unsigned push_rule(state *s, unsigned label)
 {
     table *t = &s->tables[s->depth++];
     t->count = 0;
-    put_row(t, s->width, 1u << (2 * LABELS + label), NULL, 0);
+    t->marks = 1u << (2 * LABELS + label);
+    put_row(t, s->width, t->marks, NULL, 0);
     return 0;
 }
 
@@ -158,17 +160,45 @@ static unsigned unite_tables(state *s, table *t, const table *a, const table *b)
     return fault;
 }
 
-// The two newest tables become the free one.
-static unsigned unite(state *s)
+// The table made in the free one takes the place of the two newest.
+static void replace_newest(state *s)
 {
-    table *a = &s->tables[s->depth - 2], *b = a + 1, *t = &s->tables[s->parts];
-    unsigned fault = unite_tables(s, t, a, b);
-    if (fault) return fault;
-    table made = *t;
+    table *a = &s->tables[s->depth - 2], *b = a + 1, *t = &s->tables[s->parts], made = *t;
+    made.marks = a->marks | b->marks;
     *t = *a;
     *a = made;
     s->depth--;
+}
+
+static unsigned unite(state *s)
+{
+    table *a = &s->tables[s->depth - 2], *b = a + 1;
+    unsigned fault = unite_tables(s, &s->tables[s->parts], a, b);
+    if (fault) return fault;
+    replace_newest(s);
     return 0;
+}
+
+// A relabel, or the connects that a link is (02, Item 11): atoms of label i with rules of label j, and atoms of j with rules of i.
+typedef struct { command each[2]; size_t count; } maps;
+
+static bool can_connect(const table *t, const command *c)
+{
+    uint32_t needed = 1u << c->i | 1u << (2 * LABELS + c->j);
+    return (t->marks & needed) == needed;
+}
+
+// Those of a command that find something in the table; its marks are then those after the command.
+static maps maps_of(table *t, const command *c)
+{
+    command back = {c->code, c->j, c->i, c->length};
+    maps m = {{*c}, 0};
+    if (c->code == RELABEL) m.count = relabel(&t->marks, 1, c->i, c->j);
+    else {
+        if (can_connect(t, c)) m.each[m.count++] = *c;
+        if (can_connect(t, &back)) m.each[m.count++] = back;
+    }
+    return m;
 }
 
 // The marks that decide a connect: a triple with all of them loses that of the unmet rule. 0 where none of the pair does.
@@ -181,7 +211,7 @@ static uint32_t marks_of(const command *c, uint32_t q, uint32_t unmet)
     }
 }
 
-// What a relabel or connect makes of the interpretation's own triple.
+// What a relabel or one connect makes of the interpretation's own triple.
 static uint32_t map_triple(const command *c, uint32_t q)
 {
     uint32_t unmet = 1u << (2 * LABELS + c->j), marks = 0;
@@ -190,7 +220,7 @@ static uint32_t map_triple(const command *c, uint32_t q)
     return marks != 0 && (q & marks) == marks ? q ^ unmet : q;
 }
 
-// The subsets of a pair after a connect: whether any changed.
+// The subsets of a pair after one connect: whether any changed.
 static bool connect_subsets(const command *c, uint32_t q, uint32_t *row)
 {
     uint32_t unmet = 1u << (2 * LABELS + c->j), marks = marks_of(c, q, unmet);
@@ -225,9 +255,11 @@ static void move_row(table *t, size_t width, size_t to, size_t from)
 static unsigned map_table(state *s, const command *c)
 {
     table *t = &s->tables[s->depth - 1];
+    maps m = maps_of(t, c);
     size_t count = t->count;
     bool changed = false;
-    for (size_t k = 0; k < count; k++) changed |= map_row(c, t->rows + k * s->width);
+    for (size_t k = 0; k < count; k++)
+        for (size_t h = 0; h < m.count; h++) changed |= map_row(&m.each[h], t->rows + k * s->width);
     if (!changed) return 0;
     index_empty(&s->index, count);
     t->count = 0;
@@ -273,21 +305,20 @@ static unsigned unite_plain(state *s)
             if (t->count == s->pair_limit) return PLANS_FULL;
             t->rows[t->count++] = q;
         }
-    table made = *t;
-    *t = *a;
-    *a = made;
-    s->depth--;
+    replace_newest(s);
     return 0;
 }
 
 static unsigned map_plain(state *s, const command *c)
 {
     table *t = &s->tables[s->depth - 1];
+    maps m = maps_of(t, c);
     size_t count = t->count;
     uint64_t stamp = filter_empty(&s->seen);
     t->count = 0;
     for (size_t k = 0; k < count; k++) {
-        uint32_t q = map_triple(c, t->rows[k]);
+        uint32_t q = t->rows[k];
+        for (size_t h = 0; h < m.count; h++) q = map_triple(&m.each[h], q);
         if (filter_add(&s->seen, stamp, q)) t->rows[t->count++] = q;
     }
     return 0;

@@ -16,7 +16,8 @@ enum { SUBSETS_FULL = 15, PLANS_FULL = 16 };
 
 typedef struct { unsigned code, i, j, length; } command;
 
-typedef struct { uint32_t *rows; uint64_t *first; size_t count; } table;
+// The marks are those of all atoms of the part, in and out, and of all its rules, met or not: its triples have no others.
+typedef struct { uint32_t *rows; uint64_t *first; size_t count; uint32_t marks; } table;
 
 // Where the row with a given hash stands: its number and 1, or 0.
 typedef struct { uint16_t slots[4 * LIMIT]; unsigned mask; } row_index;

@@ -31,13 +31,19 @@
  *     13 g      a new granted copy in group g: a copy like any other, numbered with them and counted among the 63, that no rule need make
  *     21        join the two newest parts into one
  *     31 i j    in the newest part everything of group i moves to group j
- *     41 i j    in the newest part every copy of group i goes into the head set of every rule of group j
+ *     41 i j    in the newest part every copy of group i goes into the head set of every rule of group j, and every copy of group j into
+ *               that of every rule of group i
  *     42 i j    .. into the needed set
  *     43 i j    .. into the barring set
  *     51 name   the copy or rule that appeared last is called so: sixteen bytes of any value (see NAMES)
  *
  * 11, 12 and 13 put a new part on the stack (at most 8 at a time); a whole sheet leaves one part. The sheet's depth (D) is the most parts
  * that it has at any moment; most sheets need two or three.
+ *
+ * 41, 42 and 43 are links. A link has no direction: i j and j i do the same. A group may hold both copies and rules; a link joins copies of
+ * either group with rules of the other, never a copy with a rule of its own group. Given again it changes nothing. A sheet that was written
+ * for links that put copies of group i into rules of group j alone keeps its tables, and so its answers and reports, if at every link
+ * group i has no rules, or group j no copies, in the newest part.
  *
  * A plan is a set of copies. It meets a rule if some needed copy is missing, or some barring copy is present, or some head copy is
  * present. It is grounded if it meets every rule, and no strictly smaller plan (a proper subset) that agrees with it on every granted copy
@@ -297,6 +303,8 @@ uint64_t nuntennis_name(const uint8_t *sheet, size_t sheet_len, uint64_t copy, u
  *     nuntennis_grounded(sheet, sizeof sheet, 32, 32, 0, 0, workspace, NUNTENNIS_MOST_WORKSPACE_WORDS(32, 32), answer, 3);
  *     if (answer[0] == NUNTENNIS_YES) printf("plan %llx\n", (unsigned long long)answer[1]);                      // plan 1
  *     if (answer[0] == NUNTENNIS_REFUSED) printf("refusal %d at byte %d\n", (int)answer[1], (int)answer[2]);
+ *
+ * The same with the rule in group 0 and the copy in group 1 is 12 00 11 01 21 41 00 01, or 41 01 00 at its end: yes with mask 1 too.
  *
  * With copy 0 pinned in, the sheet 13 00 gives yes with mask 1, as the copy is granted, and 11 00 gives no, as no rule makes the copy.
  */

@@ -255,3 +255,16 @@ void expect_unnamed(const oracle_request *r, oracle_answer grounded, oracle_answ
     expect_call(CALL_GROUNDED, &unnamed, grounded, NULL);
     expect_call(CALL_PLAIN, &unnamed, plain, NULL);
 }
+
+void expect_exchanged(const oracle_request *r, oracle_answer grounded, oracle_answer plain)
+{
+    uint8_t sheet[NUNTENNIS_SHEET_BYTES];
+    oracle_request exchanged = *r;
+    if (oracle_depth(r).kind == 2) return;
+    memcpy(sheet, r->sheet, r->sheet_len);
+    policy_exchange(sheet, r->sheet_len);
+    exchanged.sheet = sheet;
+    if (memcmp(sheet, r->sheet, r->sheet_len) == 0) return;
+    expect_call(CALL_GROUNDED, &exchanged, grounded, NULL);
+    expect_call(CALL_PLAIN, &exchanged, plain, NULL);
+}

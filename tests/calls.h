@@ -26,6 +26,9 @@ unsigned expect_names(const oracle_request *r);
 // With the names of a sheet taken out both decisions are these ones, a refusal at the same command. A sheet that 1 or 5 to 12 refuses passes.
 void expect_unnamed(const oracle_request *r, oracle_answer grounded, oracle_answer plain);
 
+// With the groups of every link exchanged both decisions are these ones (02, Item 11). A sheet that 1 or 5 to 12 refuses passes.
+void expect_exchanged(const oracle_request *r, oracle_answer grounded, oracle_answer plain);
+
 // The call that is running, NULL for none: named should it touch a page that it may not.
 void watch(const char *call, const oracle_request *r);
 

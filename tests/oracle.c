@@ -141,7 +141,7 @@ oracle_table oracle_triples(const policy *p, unsigned part, uint64_t pins_in, ui
     return t;
 }
 
-// ---- tables by Definition 8, with the leaf of 02, Item 9
+// ---- tables by Definition 8, with the leaf of 02, Item 9 and the links of 02, Item 11
 
 enum { SETS = 1 << POLICY_GROUPS };
 
@@ -201,8 +201,9 @@ static void add_leaf(row_list *list, const policy_command *c, unsigned atom, uin
     if (!(pins_in >> atom & 1)) add_row(list, new_row(1u << (POLICY_GROUPS + c->i), 0));
 }
 
-oracle_table oracle_define(const policy_command *c, unsigned atom, uint64_t pins_in, uint64_t pins_out,
-                           const oracle_table *below, const oracle_table *newest)
+// By Definition 8 to the letter, which connects atoms of label i with rules of label j.
+static oracle_table defined(const policy_command *c, unsigned atom, uint64_t pins_in, uint64_t pins_out, const oracle_table *below,
+                            const oracle_table *newest)
 {
     row_list list = {NULL, 0, 0};
     if (c->code < 0x21) {
@@ -217,6 +218,18 @@ oracle_table oracle_define(const policy_command *c, unsigned atom, uint64_t pins
         for (const uint32_t *a = below->words; a < below->words + below->length; a += a[1] + 2) add_row(&list, united_row(a, b));
     }
     return table_of(&list);
+}
+
+// A link is that of i j, followed by the same of j i.
+oracle_table oracle_define(const policy_command *c, unsigned atom, uint64_t pins_in, uint64_t pins_out,
+                           const oracle_table *below, const oracle_table *newest)
+{
+    oracle_table made = defined(c, atom, pins_in, pins_out, below, newest);
+    if (!policy_is_link(c->code)) return made;
+    policy_command back = {c->code, c->j, c->i, c->offset, c->next};
+    oracle_table both = defined(&back, atom, pins_in, pins_out, below, &made);
+    oracle_free(&made);
+    return both;
 }
 
 // ---- the tables after each command
@@ -235,6 +248,7 @@ oracle_history oracle_walk(const uint8_t *sheet, size_t sheet_len, uint64_t pins
         oracle_step *now = &h.step[h.steps];
         now->command = policy_command_at(sheet, at);
         now->atoms = h.policy.atoms;
+        now->links_back = policy_links_back(&h.policy, &now->command);
         policy_apply(&h.policy, &now->command);
         note_depth(now, h.steps ? now - 1 : NULL, h.steps, h.policy.parts);
         now->pairs = oracle_pairs(&h.policy, h.policy.parts - 1, pins_in, pins_out);

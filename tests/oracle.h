@@ -24,7 +24,7 @@ typedef struct { uint32_t *words; size_t length, entries, most_subsets; } oracle
 oracle_table oracle_pairs(const policy *p, unsigned part, uint64_t pins_in, uint64_t pins_out);
 oracle_table oracle_triples(const policy *p, unsigned part, uint64_t pins_in, uint64_t pins_out);
 
-// What Definition 8 and 02, Item 9 make of tables found: the newest one (and the one below it for a union; both NULL for a leaf).
+// What Definition 8 with 02, Items 9 and 11 makes of tables found: the newest one (and the one below it for a union; both NULL for a leaf).
 oracle_table oracle_define(const policy_command *command, unsigned atom, uint64_t pins_in, uint64_t pins_out,
                            const oracle_table *below, const oracle_table *newest);
 
@@ -35,6 +35,7 @@ void oracle_free(oracle_table *table);
 typedef struct {
     policy_command command;
     unsigned atoms;     // before the command
+    bool links_back;    // whether it is a link that finds rules of its first label and atoms of its second
     unsigned depth;     // after it
     unsigned made[8];   // which step made the table of each part
     oracle_table pairs, triples; // of the newest part

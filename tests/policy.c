@@ -17,11 +17,16 @@ static bool is_leaf(unsigned code)
     return is_atom(code) || code == 0x12;
 }
 
+bool policy_is_link(unsigned code)
+{
+    return code == 0x41 || code == 0x42 || code == 0x43;
+}
+
 static unsigned operands_of(unsigned code)
 {
     if (is_leaf(code)) return 1;
     if (code == 0x21 || code == 0x51) return 0;
-    if (code == 0x31 || code == 0x41 || code == 0x42 || code == 0x43) return 2;
+    if (code == 0x31 || policy_is_link(code)) return 2;
     return NONE;
 }
 
@@ -64,12 +69,27 @@ policy_command policy_command_at(const uint8_t *sheet, size_t at)
 
 // ---- the policy
 
+static bool is_rule_of(const policy *p, unsigned r, unsigned label)
+{
+    return p->rule_part[r] == p->parts - 1 && p->rule_label[r] == label;
+}
+
+// The atoms of a label, in the newest part.
+static uint64_t atoms_of(const policy *p, unsigned label)
+{
+    uint64_t atoms = 0;
+    for (unsigned a = 0; a < p->atoms; a++)
+        if (p->atom_part[a] == p->parts - 1 && p->atom_label[a] == label) atoms |= (uint64_t)1 << a;
+    return atoms;
+}
+
+// A link has no direction (02, Item 11): rules of either label get the atoms of the other.
 static void link(policy *p, uint64_t *sets, unsigned i, unsigned j)
 {
-    for (unsigned r = 0; r < p->rules; r++)
-        for (unsigned a = 0; a < p->atoms; a++)
-            if (p->rule_part[r] == p->parts - 1 && p->atom_part[a] == p->parts - 1 && p->rule_label[r] == j && p->atom_label[a] == i)
-                sets[r] |= (uint64_t)1 << a;
+    for (unsigned r = 0; r < p->rules; r++) {
+        if (is_rule_of(p, r, j)) sets[r] |= atoms_of(p, i);
+        if (is_rule_of(p, r, i)) sets[r] |= atoms_of(p, j);
+    }
 }
 
 static void relabel(policy *p, unsigned i, unsigned j)
@@ -121,6 +141,14 @@ void policy_apply(policy *p, const policy_command *c)
     if (p->parts > p->most_parts) p->most_parts = p->parts;
 }
 
+bool policy_links_back(const policy *p, const policy_command *c)
+{
+    if (!policy_is_link(c->code) || atoms_of(p, c->j) == 0) return false;
+    for (unsigned r = 0; r < p->rules; r++)
+        if (is_rule_of(p, r, c->i)) return true;
+    return false;
+}
+
 void policy_build(policy *p, const uint8_t *sheet, size_t sheet_len)
 {
     memset(p, 0, sizeof *p);
@@ -129,6 +157,18 @@ void policy_build(policy *p, const uint8_t *sheet, size_t sheet_len)
         policy_apply(p, &c);
         at = c.next;
     }
+}
+
+bool policy_has_link_back(const uint8_t *sheet, size_t sheet_len)
+{
+    policy p = {0};
+    for (size_t at = 0; at < sheet_len;) {
+        policy_command c = policy_command_at(sheet, at);
+        if (policy_links_back(&p, &c)) return true;
+        policy_apply(&p, &c);
+        at = c.next;
+    }
+    return false;
 }
 
 size_t policy_unnamed(uint8_t *to, const uint8_t *sheet, size_t sheet_len)
@@ -181,6 +221,14 @@ void policy_grant_half(uint8_t *sheet, size_t sheet_len, unsigned first)
     unsigned copies = 0;
     for (size_t at = 0; at < sheet_len; at = policy_command_at(sheet, at).next)
         if (sheet[at] == 0x11 && copies++ % 2 == first) sheet[at] = 0x13;
+}
+
+void policy_exchange(uint8_t *sheet, size_t sheet_len)
+{
+    for (size_t at = 0; at < sheet_len; at = policy_command_at(sheet, at).next) {
+        policy_command c = policy_command_at(sheet, at);
+        if (policy_is_link(c.code)) sheet[at + 1] = (uint8_t)c.j, sheet[at + 2] = (uint8_t)c.i;
+    }
 }
 
 bool policy_obeys(uint64_t x, uint64_t pins_in, uint64_t pins_out)

@@ -26,16 +26,27 @@ typedef struct {
 unsigned policy_fault(const uint8_t *sheet, size_t sheet_len, size_t at, const policy *before);
 policy_command policy_command_at(const uint8_t *sheet, size_t at);
 
+bool policy_is_link(unsigned code);
+
 void policy_apply(policy *p, const policy_command *c);
+
+// Whether the command is a link i j that puts copies of j into rules of i: the newest part has some of both.
+bool policy_links_back(const policy *before, const policy_command *c);
 
 // The policy of a sheet that passes checks 1 to 12.
 void policy_build(policy *p, const uint8_t *sheet, size_t sheet_len);
+
+// Whether such a sheet has such a link. If not, it means the same where a link i j puts copies of i into rules of j alone.
+bool policy_has_link_back(const uint8_t *sheet, size_t sheet_len);
 
 // The commands of such a sheet, or the first of them, without the names: how many bytes they have.
 size_t policy_unnamed(uint8_t *to, const uint8_t *sheet, size_t sheet_len);
 
 // Makes every second copy of such a sheet a granted one, from the copy with the number given (0 or 1) on.
 void policy_grant_half(uint8_t *sheet, size_t sheet_len, unsigned first);
+
+// Exchanges the two groups of every link of such a sheet: it means the same (02, Item 11).
+void policy_exchange(uint8_t *sheet, size_t sheet_len);
 
 bool policy_obeys(uint64_t interpretation, uint64_t pins_in, uint64_t pins_out);
 bool policy_is_model(const policy *p, uint64_t interpretation);

@@ -47,6 +47,14 @@ static void put3(writer *w, unsigned a, unsigned b, unsigned c)
     put1(w, c);
 }
 
+// A link of two labels, in either order.
+static void put_link(random_source *r, writer *w, unsigned i, unsigned j)
+{
+    unsigned code = 0x41 + random_below(r, 3);
+    bool is_exchanged = random_below(r, 2);
+    put3(w, code, is_exchanged ? j : i, is_exchanged ? i : j);
+}
+
 // ---- parts joined and linked anyhow
 
 // Labels that atoms and rules of a part have.
@@ -65,15 +73,20 @@ static unsigned moved(unsigned set, unsigned i, unsigned j)
     return set >> i & 1 ? (set & ~(1u << i)) | 1u << j : set;
 }
 
-// A link from a label of atoms to a label of rules, or a move. labels is at least 2.
+// A link of a label of atoms with a label of rules, or a move. labels is at least 2.
 static void put_map(random_source *r, writer *w, part *p, unsigned labels)
 {
     bool is_move = random_below(r, 4) == 0;
     unsigned i = random_label(r, is_move ? p->atoms | p->rules : p->atoms, labels);
     unsigned j = random_label(r, p->rules, labels);
     if (i == j) j = (i + 1 + random_below(r, labels - 1)) % labels;
-    put3(w, is_move ? 0x31 : 0x41 + random_below(r, 3), i, j);
-    if (is_move) p->atoms = moved(p->atoms, i, j), p->rules = moved(p->rules, i, j);
+    if (!is_move) {
+        put_link(r, w, i, j);
+        return;
+    }
+    put3(w, 0x31, i, j);
+    p->atoms = moved(p->atoms, i, j);
+    p->rules = moved(p->rules, i, j);
 }
 
 static part put_leaf(random_source *r, writer *w, unsigned *atoms, unsigned *rules, unsigned labels)
@@ -130,6 +143,60 @@ size_t random_policy(random_source *r, uint8_t *sheet, unsigned atoms, unsigned 
         put3(&w, 0x31, HAND, DONE);
     }
     return w.length;
+}
+
+// ---- groups of both: what is in hand, a copy or a rule or one of each, is linked with groups below `labels` and moves to one of them
+
+// A copy and a rule are linked with each other, or not.
+static void put_hand(random_source *r, writer *w, bool has_atom, bool has_rule)
+{
+    if (has_atom) put2(w, 0x11, HAND);
+    if (has_rule) put2(w, 0x12, has_atom ? DONE : HAND);
+    if (!has_atom || !has_rule) return;
+    put1(w, 0x21);
+    if (random_below(r, 2)) put_link(r, w, HAND, DONE);
+    put3(w, 0x31, DONE, HAND);
+}
+
+static void put_links_of_hand(random_source *r, writer *w, unsigned labels)
+{
+    for (unsigned links = random_below(r, 4); links > 0; links--) {
+        unsigned label = random_below(r, labels);
+        put_link(r, w, HAND, label);
+    }
+}
+
+static void put_link_of_groups(random_source *r, writer *w, unsigned labels)
+{
+    unsigned i = random_below(r, labels);
+    unsigned j = (i + 1 + random_below(r, labels - 1)) % labels;
+    put_link(r, w, i, j);
+}
+
+size_t random_mixed(random_source *r, uint8_t *sheet, unsigned atoms, unsigned rules, unsigned labels)
+{
+    writer w = {sheet, 0};
+    while (atoms + rules > 0) {
+        unsigned drawn = random_below(r, atoms + rules);
+        bool is_first = w.length == 0, is_both = random_below(r, 2);
+        bool has_atom = drawn < atoms || (is_both && atoms > 0), has_rule = drawn >= atoms || (is_both && rules > 0);
+        put_hand(r, &w, has_atom, has_rule);
+        atoms -= has_atom;
+        rules -= has_rule;
+        if (!is_first) put1(&w, 0x21);
+        put_links_of_hand(r, &w, labels);
+        put3(&w, 0x31, HAND, random_below(r, labels));
+        if (random_below(r, 2)) put_link_of_groups(r, &w, labels);
+    }
+    return w.length;
+}
+
+size_t random_sound(random_source *r, uint8_t *sheet, unsigned atoms, unsigned rules)
+{
+    unsigned shape = random_below(r, 3);
+    if (shape == 0) return random_parts(r, sheet, atoms, rules, 2 + random_below(r, POLICY_GROUPS - 1));
+    if (shape == 1) return random_policy(r, sheet, atoms, rules, 1 + random_below(r, POLICY_GROUPS - 2));
+    return random_mixed(r, sheet, atoms, rules, 2 + random_below(r, 4));
 }
 
 // ---- granted copies

@@ -15,10 +15,15 @@ uint64_t random_mask(random_source *r, unsigned bits, unsigned one_in);
 
 enum { RANDOM_SHEET_ROOM = 4200 };
 
-// A sheet without faults: so many copies and rules, in groups below `labels`
-// (2 to all of them for parts, 1 to all but two for a policy). Parts are joined and linked anyhow; a policy is written rule by rule.
+// A sheet without faults: so many copies and rules, in groups below `labels` (2 to all of them for parts, 1 to all but two for a policy, 2 to all
+// but two for a mixed one). Parts are joined and linked anyhow; a policy is written rule by rule, and no group of it holds both copies and rules;
+// in a mixed one most groups do, and their links put copies into rules both ways (02, Item 11).
 size_t random_parts(random_source *r, uint8_t *sheet, unsigned atoms, unsigned rules, unsigned labels);
 size_t random_policy(random_source *r, uint8_t *sheet, unsigned atoms, unsigned rules, unsigned labels);
+size_t random_mixed(random_source *r, uint8_t *sheet, unsigned atoms, unsigned rules, unsigned labels);
+
+// One of the three, in some groups; it has a copy or a rule at least.
+size_t random_sound(random_source *r, uint8_t *sheet, unsigned atoms, unsigned rules);
 
 // Makes some copies of a sheet without faults granted ones.
 void random_grants(random_source *r, uint8_t *sheet, size_t sheet_len);

@@ -32,6 +32,14 @@ typedef struct {
 // CIRCLE with the mirror granted; and copy 0 unless copy 1, which is granted, or not.
 #define GRANTED_CIRCLE "11 00 13 01 21 12 02 21 12 03 21 41 00 02 42 01 02 41 01 03 42 00 03"
 #define UNLESS " 01 21 12 02 21 41 00 02 43 01 02"
+// A rule in group 0 and a copy in group 1; a copy and a rule in each of groups 0 and 1; and those with a rule that makes the copy of its own group.
+#define BEHIND "12 00 11 01 21"
+#define GRANTED_BEHIND "12 00 13 01 21"
+#define MIXED "11 00 12 00 21 11 01 12 01 21 21"
+#define MADE "11 00 12 02 21 41 00 02 31 02 00 11 01 12 02 21 41 01 02 31 02 01 21"
+#define MADE_GRANTED "11 00 12 02 21 41 00 02 31 02 00 13 01 12 02 21 41 01 02 31 02 01 21"
+// Copy 0 with a rule that makes it, and copy 1 with one that it bars: a barring link then asks that one of them is kept.
+#define MADE_UNLESS "11 00 12 02 21 41 00 02 31 02 00 11 01 12 02 21 43 01 02 31 02 01 21 43 00 01"
 #define YES(plan) {1, plan, 0}
 #define NO {0, 0, 0}
 #define REFUSED(number, place) {2, number, place}
@@ -157,6 +165,56 @@ static const trial trials[] = {
     {"granted, absent", "13 00", 32, 32, 2, 0, REFUSED(13, 2), REFUSED(13, 2)},
     {"granted, clash", "13 00", 32, 32, 1, 1, REFUSED(4, 0), REFUSED(4, 0)},
     {"the byte behind granted", "14 00", 32, 32, 0, 0, REFUSED(5, 0), REFUSED(5, 0)},
+    // 02, Item 11: links both ways; every sheet here is tried with the groups of its links exchanged too. The half j i alone
+    {"head from the second group", BEHIND " 41 00 01", 32, 32, 0, 0, YES(1), YES(0)},
+    {"head from the second group, pinned out", BEHIND " 41 00 01", 32, 32, 0, 1, NO, NO},
+    {"needed from the second group", BEHIND " 42 00 01", 32, 32, 0, 0, YES(0), YES(0)},
+    {"needed from the second group, pinned in", BEHIND " 42 00 01", 32, 32, 1, 0, NO, NO},
+    {"barring from the second group", BEHIND " 43 00 01", 32, 32, 0, 0, NO, YES(0)},
+    {"barring from the second group, pinned out", BEHIND " 43 00 01", 32, 32, 0, 1, NO, NO},
+    {"made unless kept, by the half j i of both links", BEHIND " 41 00 01 43 00 01", 32, 32, 0, 0, NO, YES(0)},
+    {"made unless kept, by the half j i of the barring one", BEHIND " 41 01 00 43 00 01", 32, 32, 0, 0, NO, YES(0)},
+    {"granted, head from the second group", GRANTED_BEHIND " 41 00 01", 32, 32, 0, 0, YES(1), YES(0)},
+    {"granted, needed from the second group", GRANTED_BEHIND " 42 00 01", 32, 32, 0, 0, YES(0), YES(0)},
+    {"granted, needed from the second group, pinned in", GRANTED_BEHIND " 42 00 01", 32, 32, 1, 0, NO, NO},
+    {"granted, barring from the second group", GRANTED_BEHIND " 43 00 01", 32, 32, 0, 0, YES(1), YES(0)},
+    {"granted, barring from the second group, pinned out", GRANTED_BEHIND " 43 00 01", 32, 32, 0, 1, NO, NO},
+    {"every rule of the first group, every copy of the second", "12 00 12 00 21 11 01 21 11 01 21 41 00 01", 32, 32, 0, 0, YES(2), YES(0)},
+    {"group 9 with group 8", "12 09 11 08 21 41 09 08", 32, 32, 0, 0, YES(1), YES(0)},
+    {"both have moved", "12 02 31 02 00 11 03 31 03 01 21 41 00 01", 32, 32, 0, 0, YES(1), YES(0)},
+    {"given again, and the other way round", BEHIND " 41 00 01 41 01 00", 32, 32, 0, 0, YES(1), YES(0)},
+    {"named", "12 00 51 " ARCHIVE " 11 01 51 " MIRROR " 21 51 " COMMANDS " 41 00 01 51 " ARCHIVE, 32, 32, 0, 0, YES(1), YES(0)},
+    // .. and both halves
+    {"head both ways: each rule makes the other group's copy", MIXED " 41 00 01", 32, 32, 0, 0, YES(3), YES(0)},
+    {"head both ways, copy 0 pinned out", MIXED " 41 00 01", 32, 32, 0, 1, NO, NO},
+    {"head both ways, copy 1 pinned out", MIXED " 41 00 01", 32, 32, 0, 2, NO, NO},
+    {"needed both ways", MIXED " 42 00 01", 32, 32, 0, 0, YES(0), YES(0)},
+    {"needed both ways, copy 0 pinned in", MIXED " 42 00 01", 32, 32, 1, 0, NO, NO},
+    {"needed both ways, copy 1 pinned in", MIXED " 42 00 01", 32, 32, 2, 0, NO, NO},
+    {"barring both ways", MIXED " 43 00 01", 32, 32, 0, 0, NO, YES(0)},
+    {"barring both ways, copy 0 pinned out", MIXED " 43 00 01", 32, 32, 0, 1, NO, NO},
+    {"barring both ways, copy 1 pinned out", MIXED " 43 00 01", 32, 32, 0, 2, NO, NO},
+    {"barring both ways, both granted", "13 00 12 00 21 13 01 12 01 21 21 43 00 01", 32, 32, 0, 0, YES(3), YES(0)},
+    {"either of two, for both rules", MADE " 41 00 01", 32, 32, 0, 0, YES(2), YES(0)},
+    {"CIRCLE by one link", MADE " 42 00 01", 32, 32, 0, 0, YES(0), YES(0)},
+    {"CIRCLE by one link, copy 0 pinned in", MADE " 42 00 01", 32, 32, 1, 0, NO, YES(0)},
+    {"CIRCLE by one link, the mirror granted and pinned in", MADE_GRANTED " 42 00 01", 32, 32, 2, 0, YES(3), YES(0)},
+    {"each unless the other", MADE " 43 00 01", 32, 32, 0, 0, YES(2), YES(0)},
+    {"each unless the other, copy 0 pinned in", MADE " 43 00 01", 32, 32, 1, 0, YES(1), YES(0)},
+    {"each unless the other, both pinned in", MADE " 43 00 01", 32, 32, 3, 0, NO, YES(0)},
+    {"one is kept", MADE_UNLESS, 32, 32, 0, 0, YES(1), YES(0)},
+    {"one is kept, and nothing makes it: the half j i goes by the plan", MADE_UNLESS, 32, 32, 2, 0, NO, YES(0)},
+    {"both ways under the least limits", MIXED " 41 00 01 42 00 01 43 00 01", 4, 3, 0, 0, YES(0), YES(0)},
+    {"both ways, 16 before the link", MIXED " 41 00 01", 3, 3, 0, 0, REFUSED(16, 10), REFUSED(16, 10)},
+    {"both ways, 15 before the link", MIXED " 41 00 01", 4, 2, 0, 0, REFUSED(15, 10), YES(0)},
+    // .. and what no link joins
+    {"a copy and a rule of the first group", "11 00 12 00 21 41 00 01", 32, 32, 0, 0, NO, NO},
+    {"a copy and a rule of the second group", "11 01 12 01 21 41 00 01", 32, 32, 0, 0, NO, NO},
+    {"a rule of a third group", "12 02 12 00 21 11 01 21 41 00 01", 32, 32, 0, 0, NO, NO},
+    {"a copy of a third group", "12 00 11 02 21 41 00 01", 32, 32, 0, 0, NO, NO},
+    {"a rule in the part below", "12 00 11 01 41 00 01 21", 32, 32, 0, 0, NO, NO},
+    {"a copy in the part below", "11 01 12 00 41 00 01 21", 32, 32, 0, 0, NO, NO},
+    {"one group", MIXED " 41 00 00", 32, 32, 0, 0, REFUSED(8, 11), REFUSED(8, 11)},
 };
 
 static size_t read_hex(const char *hex, uint8_t *bytes)
@@ -197,6 +255,7 @@ static void try_sheet(const trial *t)
     expect_call(CALL_GROUNDED, &r, t->grounded, NULL);
     expect_call(CALL_PLAIN, &r, t->plain, NULL);
     expect_unnamed(&r, t->grounded, t->plain);
+    expect_exchanged(&r, t->grounded, t->plain);
     expect_names(&r);
 }
 
@@ -220,7 +279,7 @@ static void expect_report(call c, oracle_request *r, size_t asked, size_t report
 
 #define GRANTED_THEN_COPY "13 00 11 01 21"
 
-typedef struct { const char *hex; call call; uint64_t pins_in, pins_out; size_t asked, report_len; oracle_answer want; uint32_t words[10]; } reporting;
+typedef struct { const char *hex; call call; uint64_t pins_in, pins_out; size_t asked, report_len; oracle_answer want; uint32_t words[13]; } reporting;
 
 static const reporting reportings[] = {
     {LISTED, CALL_REPORT, 0, 0, 5, 5, {1, 2, 5}, {1, 1, 2098176, 2098176, 0}},
@@ -247,6 +306,25 @@ static const reporting reportings[] = {
     {GRANTED_THEN_COPY, CALL_PLAIN_REPORT, 1, 0, 0, 1, {1, 1, 1}, {1}},
     {GRANTED_THEN_COPY, CALL_REPORT, 0, 1, 0, 2, {1, 1, 2}, {1024, 0}},
     {GRANTED_THEN_COPY, CALL_PLAIN_REPORT, 0, 1, 0, 1, {1, 1, 1}, {1024}},
+    // 02, Item 11: U of group 0 by T and F of group 1, in the barring link by the T of Q for the subset too
+    {BEHIND " 41 00 01", CALL_REPORT, 0, 0, 4, 5, {1, 2, 5}, {1048578, 1, 1050624, 1050624, 0}},
+    {BEHIND " 41 00 01", CALL_REPORT, 0, 0, 5, 5, {1, 2, 5}, {2, 1, 1050624, 1050624, 0}},
+    {BEHIND " 42 00 01", CALL_REPORT, 0, 0, 5, 5, {1, 2, 5}, {2048, 0, 1048578, 1, 2048}},
+    {BEHIND " 43 00 01", CALL_REPORT, 0, 0, 5, 5, {1, 2, 5}, {2, 1, 2048, 1050624, 0}},
+    {BEHIND " 43 00 01", CALL_REPORT, 1, 0, 5, 3, {1, 1, 3}, {2, 1, 2048}},
+    {GRANTED_BEHIND " 41 00 01", CALL_REPORT, 0, 0, 5, 4, {1, 2, 4}, {2, 0, 1050624, 0}},
+    {BEHIND " 41 00 01", CALL_PLAIN_REPORT, 0, 0, 5, 2, {1, 2, 2}, {2, 1050624}},
+    {BEHIND " 42 00 01", CALL_PLAIN_REPORT, 0, 0, 5, 2, {1, 2, 2}, {2048, 1048578}},
+    {BEHIND " 43 00 01", CALL_PLAIN_REPORT, 0, 0, 5, 2, {1, 2, 2}, {2, 1050624}},
+    // .. and that of group 1 by group 0
+    {MIXED " 41 00 01", CALL_REPORT, 0, 0, 11, 13, {1, 4, 13}, {3, 3, 1050625, 2098178, 3148800, 1050625, 1, 3148800, 2098178, 1, 3148800, 3148800, 0}},
+    {MIXED " 42 00 01", CALL_REPORT, 0, 0, 11, 13, {1, 4, 13}, {3072, 0, 1049602, 1, 3072, 2099201, 1, 3072, 3145731, 3, 3072, 1049602, 2099201}},
+    {MIXED " 43 00 01", CALL_REPORT, 0, 0, 11, 13, {1, 4, 13}, {3, 3, 1026, 2049, 3072, 1050625, 1, 1051648, 2098178, 1, 2100224, 3148800, 0}},
+    {MIXED " 41 00 01", CALL_PLAIN_REPORT, 0, 0, 11, 4, {1, 4, 4}, {3, 1050625, 2098178, 3148800}},
+    {MIXED " 42 00 01", CALL_PLAIN_REPORT, 0, 0, 11, 4, {1, 4, 4}, {3072, 1049602, 2099201, 3145731}},
+    {MIXED " 43 00 01", CALL_PLAIN_REPORT, 0, 0, 11, 4, {1, 4, 4}, {3, 1050625, 2098178, 3148800}},
+    {MIXED " 41 00 01", CALL_REPORT, 0, 0, 11, 12, REFUSED(17, 11), {0}},
+    {MIXED " 41 00 01", CALL_PLAIN_REPORT, 0, 0, 12, 4, REFUSED(14, 12), {0}},
 };
 
 static void try_report(const reporting *t)
@@ -254,7 +332,10 @@ static void try_report(const reporting *t)
     uint8_t sheet[16];
     oracle_request r = {sheet, read_hex(t->hex, sheet), 32, 32, t->pins_in, t->pins_out, 0, 0, 0, 3};
     r.workspace_len = need_of(&r);
-    expect_report(t->call, &r, t->asked, t->report_len, t->want, t->want.kind == 1 ? t->words : NULL);
+    for (unsigned k = 0; k < 2; k++) { // and with the groups of its link exchanged
+        expect_report(t->call, &r, t->asked, t->report_len, t->want, t->want.kind == 1 ? t->words : NULL);
+        policy_exchange(sheet, r.sheet_len);
+    }
 }
 
 static void try_reports(void)

@@ -57,6 +57,10 @@ expect 1 'no: no grounded plan obeys the pins; some plan' "$host" "$sheets/circl
 expect 0 'yes: the first grounded plan keeps these copies: 0 1' "$host" "$sheets/granted.hex"
 expect 0 'yes: the first grounded plan keeps these copies: none' "$host" "$sheets/granted.hex" -i none
 expect 0 'yes: the first grounded plan keeps these copies: 1' "$host" "$sheets/granted_bars.hex"
+expect 0 'yes: the first grounded plan keeps these copies: none' "$host" "$sheets/both_ways.hex"
+expect 1 'some plan meets every rule and obeys them, but is not grounded' "$host" -i 0 "$sheets/both_ways.hex"
+expect 0 'yes: the first grounded plan keeps these copies: 0' "$host" -i none "$sheets/barring_both_ways.hex"
+expect 1 'some plan meets every rule and obeys them, but is not grounded' "$host" "$sheets/barring_both_ways.hex"
 expect 1 'no plan that obeys them even meets every rule' "$host" "$sheets/unmet_rule.hex"
 expect 2 'refused: 7 group at byte 2: an operand is over 9' "$host" "$sheets/refused_group.hex"
 expect 0 'Exit status: 0 yes, 1 no, 2 refused' "$host" --help

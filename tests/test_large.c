@@ -111,10 +111,12 @@ static size_t random_start(random_source *s, const oracle_request *r)
     return starts[random_below(s, (unsigned)n)];
 }
 
-// The names are the oracle's, and without them the archive decides as the C does with them.
-static void try_names(const oracle_request *r, tally *n)
+// The names are the oracle's; without them, and with the groups of links exchanged, the archive decides as the C does with the sheet as it is.
+static void try_alike(const oracle_request *r, tally *n)
 {
-    expect_unnamed(r, wanted(CALL_GROUNDED, r), wanted(CALL_PLAIN, r));
+    oracle_answer grounded = wanted(CALL_GROUNDED, r), plain = wanted(CALL_PLAIN, r);
+    expect_unnamed(r, grounded, plain);
+    expect_exchanged(r, grounded, plain);
     n->named += expect_names(r);
 }
 
@@ -130,7 +132,7 @@ static void try_sheet(oracle_request r, random_source *s, tally *n)
         try_call(CALL_PLAIN_REPORT, &r, n);
         r.report_len = 0;
     }
-    try_names(&r, n);
+    try_alike(&r, n);
     n->sheets++;
 }
 
@@ -162,7 +164,7 @@ static void try_families(random_source *s, tally *n)
     }
 }
 
-// Parts joined anyhow, with more copies and rules than can be enumerated.
+// Parts joined anyhow, or groups of both, with more copies and rules than can be enumerated.
 static void try_random(random_source *s, tally *n)
 {
     uint8_t sheet[RANDOM_SHEET_ROOM];
@@ -170,7 +172,7 @@ static void try_random(random_source *s, tally *n)
     unsigned atoms = 8 + random_below(s, 16), rules = 4 + random_below(s, 30), labels = 2 + random_below(s, 3);
     r.plan_limit = 1 + random_below(s, 200);
     r.subset_limit = 1 + random_below(s, 200);
-    r.sheet_len = random_parts(s, sheet, atoms, rules, labels);
+    r.sheet_len = random_below(s, 2) ? random_parts(s, sheet, atoms, rules, labels) : random_mixed(s, sheet, atoms, rules, labels);
     if (random_below(s, 2)) random_grants(s, sheet, r.sheet_len);
     if (random_below(s, 2)) r.sheet_len = random_names(s, sheet, r.sheet_len);
     r.pins_in = random_mask(s, atoms, 8);

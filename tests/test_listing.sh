@@ -58,6 +58,14 @@ table 2
 2098176 0
 ' ''
 
+printf '\022\000\021\001\041\101\000\001' | list
+expect 'the rule in the first group of the link, the copy in the second' 'answer 1 1 0
+plain 1 0 0
+table 2
+2 1 1050624
+1050624 0
+' ''
+
 printf '\023\000' | list
 expect '13 00, a granted copy' 'answer 1 0 0
 plain 1 0 0

@@ -1,4 +1,4 @@
-// Decisions, reports and names on random sheets (sound, damaged, with granted copies, names, tight limits, pins) against the oracle.
+// Decisions, reports and names on random sheets (sound, damaged, with granted copies, names, links both ways, tight limits, pins) against the oracle.
 #include "calls.h"
 #include "random.h"
 
@@ -6,7 +6,10 @@
 #include <stdio.h>
 #include <stdlib.h>
 
-typedef struct { uint64_t sheets, calls, yes, no, reported, refused[19], ordered, short_answers, granted, named, at_names, in_names; } tally;
+typedef struct {
+    uint64_t sheets, calls, yes, no, reported, refused[19], ordered, short_answers, granted, named, at_names, in_names;
+    uint64_t back, by_back; // sheets with a link i j that puts copies of j into rules of i, and decisions that hang on it
+} tally;
 
 static void count(tally *n, const oracle_request *r, oracle_answer a, bool is_report)
 {
@@ -32,8 +35,7 @@ static size_t random_sheet(random_source *s, uint8_t *sheet)
 {
     unsigned atoms = random_below(s, 12) == 0 ? 7 + random_below(s, 3) : random_below(s, 7), rules = random_below(s, 7);
     if (atoms + rules == 0) return 0;
-    size_t n = random_below(s, 2) ? random_parts(s, sheet, atoms, rules, 2 + random_below(s, POLICY_GROUPS - 1))
-                                  : random_policy(s, sheet, atoms, rules, 1 + random_below(s, POLICY_GROUPS - 2));
+    size_t n = random_sound(s, sheet, atoms, rules);
     if (random_below(s, 2)) random_grants(s, sheet, n);
     if (random_below(s, 2)) n = random_names(s, sheet, n);
     return random_below(s, 4) == 0 ? random_damage(s, sheet, n) : n;
@@ -102,6 +104,36 @@ static bool counts_grants(const oracle_request *r, oracle_history h, oracle_answ
     return other.kind != grounded.kind || other.value != grounded.value;
 }
 
+// The policy where links have a direction: i j leaves the rules of group i as they are.
+static policy directed_policy(const oracle_history *h)
+{
+    policy p = {0};
+    for (size_t k = 0; k < h->steps; k++) {
+        const policy_command *c = &h->step[k].command;
+        policy before = p;
+        policy_apply(&p, c);
+        for (unsigned r = 0; policy_is_link(c->code) && r < p.rules; r++)
+            if (p.rule_label[r] == c->i) p.head[r] = before.head[r], p.positive[r] = before.positive[r], p.negative[r] = before.negative[r];
+    }
+    return p;
+}
+
+// Whether the decision is another one where links have a direction, the tables being as they are.
+static bool counts_back(const oracle_request *r, oracle_history h, oracle_answer grounded)
+{
+    h.policy = directed_policy(&h);
+    oracle_answer other = oracle_grounded(r, &h);
+    return other.kind != grounded.kind || other.value != grounded.value;
+}
+
+static void count_back(const oracle_request *r, const oracle_history *h, oracle_answer grounded, tally *n)
+{
+    bool goes_back = h->steps > 0 && policy_has_link_back(r->sheet, r->sheet_len), counts = counts_back(r, *h, grounded);
+    if (counts && !goes_back) disagree("the oracle", r, "no link finds rules in its first group and copies in its second, but direction counts");
+    n->back += goes_back;
+    n->by_back += counts;
+}
+
 static void try_decisions(const oracle_request *r, const oracle_history *h, tally *n)
 {
     oracle_answer grounded = oracle_grounded(r, h), plain = oracle_plain(r, h);
@@ -110,8 +142,10 @@ static void try_decisions(const oracle_request *r, const oracle_history *h, tall
     count(n, r, grounded, false);
     count(n, r, plain, false);
     expect_unnamed(r, grounded, plain);
+    expect_exchanged(r, grounded, plain);
     n->named += expect_names(r);
     n->granted += counts_grants(r, *h, grounded);
+    count_back(r, h, grounded, n);
 }
 
 // The words that the report asked for needs, if it needs any.
@@ -172,6 +206,7 @@ static void try_random(random_source *s, tally *n)
     random_lengths(s, &r);
     n->sheets++;
     try_decisions(&r, &h, n);
+    if (h.steps > 0 && random_below(s, 2)) policy_exchange(sheet, r.sheet_len); // its tables are the same
     try_reports(s, r, &h, n);
     oracle_forget(&h);
 }
@@ -186,13 +221,14 @@ static void print_tally(const tally *n)
     printf("  reports with a longer subset list before a shorter one: %" PRIu64 "; at a 51 %" PRIu64 ", inside its name %" PRIu64 "\n", n->ordered,
            n->at_names, n->in_names);
     printf("  copies with a name: %" PRIu64 "; decisions that hang on granted copies: %" PRIu64 "\n", n->named, n->granted);
+    printf("  sheets with a link that goes back: %" PRIu64 "; decisions that hang on it: %" PRIu64 "\n", n->back, n->by_back);
 }
 
 // Every outcome must have come up, or the sheets test less than they seem to. 64 copies (9) are tried apart.
 static void check_tally(const tally *n)
 {
     bool is_thin = n->yes < 100 || n->no < 100 || n->reported < 100 || n->ordered < 10 || n->granted < 50;
-    if (n->named < 100 || n->at_names < 100 || n->in_names < 100) is_thin = true;
+    if (n->named < 100 || n->at_names < 100 || n->in_names < 100 || n->back < 100 || n->by_back < 50) is_thin = true;
     for (unsigned k = 2; k <= 17; k++)
         if (k != 9 && n->refused[k] < 10) is_thin = true;
     if (!is_thin) return;

@@ -20,6 +20,7 @@ static bool try_file(const char *path)
     expect_call(CALL_GROUNDED, &r, answer, NULL);
     expect_call(CALL_PLAIN, &r, plain, NULL);
     expect_unnamed(&r, answer, plain);
+    expect_exchanged(&r, answer, plain);
     expect_names(&r);
     sheet_file_free(&f);
     return true;

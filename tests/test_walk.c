@@ -1,4 +1,5 @@
-// The walk by the step against the oracle: its tables after each step, its end against the decision, and damaged records and workspaces.
+// The walk by the step against the oracle: its tables after each step, its end against the decision, links on listed tables, and damaged records and
+// workspaces.
 #include "calls.h"
 #include "lent.h"
 #include "nuntennis.h"
@@ -26,7 +27,7 @@ typedef struct {
     uint32_t *workspace_due;
 } walk;
 
-typedef struct { uint64_t walks, steps, passed, granted, ended, full, damaged, others, records, refused, fulls, acted; } tally;
+typedef struct { uint64_t walks, steps, passed, granted, back, ended, full, damaged, others, records, refused, fulls, acted; } tally;
 
 // ---- what a call should do, by the oracle
 
@@ -245,6 +246,59 @@ static void compare_decision(walk *w, oracle_answer last, tally *n)
     if (verdict.kind != answer[0]) disagree("nuntennis_verdict", &w->r, "unlike the decision");
 }
 
+// ---- links of groups 1 and 2 on tables written by hand (02, Item 11)
+
+enum { LINKED_PAIRS = 2, LINKED_SUBSETS = 3, LINKED_WORDS = LINKED_PAIRS * (LINKED_SUBSETS + 2) };
+
+typedef struct { uint64_t count; uint32_t words[LINKED_WORDS]; } linked_table;
+
+typedef struct { const char *name; uint8_t code; linked_table found, due; } linking;
+
+// Groups in the three sets of a triple.
+enum { T1 = 1 << 1, T2 = 1 << 2, F1 = T1 << 10, F2 = T2 << 10, U1 = F1 << 10, U2 = F2 << 10, T = T1 | T2, F = F1 | F2, U = U1 | U2 };
+
+// The smaller plans of one with a copy in each group, and rules of both unmet.
+#define ALL_UNMET {1, {T | U, 3, T2 | F1 | U, T1 | F2 | U, F | U}}
+
+static const linking linkings[] = {
+    {"head", 0x41, ALL_UNMET, {1, {T, 3, T1 | F2 | U1, T2 | F1 | U2, F | U}}},
+    {"needed", 0x42, ALL_UNMET, {1, {T | U, 3, F, T2 | F1 | U1, T1 | F2 | U2}}},
+    {"barring", 0x43, ALL_UNMET, {1, {T, 3, T2 | F1, T1 | F2, F}}},
+    {"barring by the T of Q, group 1", 0x43, {1, {T1 | U, 1, T2 | U}}, {1, {T1 | U1, 1, T2 | U1}}},
+    {"barring by the T of Q, group 2", 0x43, {1, {T2 | U, 1, T1 | U}}, {1, {T2 | U2, 1, T1 | U2}}},
+    {"no copy meets a rule of its own group", 0x41, {2, {T1 | U1, 0, 0, 0, 0, T2 | U2, 1, T1 | U1}}, {2, {T1 | U1, 0, 0, 0, 0, T2 | U2, 1, T1 | U1}}},
+    {"pairs that become equal, one by each half", 0x41, {2, {T | U1, 0, 0, 0, 0, T | U2, 0}}, {1, {T, 0}}},
+    {"subsets that become equal, one by each half", 0x42, {1, {0, 2, F | U1, F | U2}}, {1, {0, 1, F}}},
+};
+
+static void try_linking(const linking *l, uint8_t i, uint8_t j)
+{
+    const uint8_t sheet[] = {0x11, 0x00, l->code, i, j};
+    const uint64_t record[10] = {2, 1, l->found.count};
+    oracle_request r = {sheet, sizeof sheet, LINKED_PAIRS, LINKED_SUBSETS, 0, 0, 2 * LINKED_WORDS, 0, 0, 3};
+    case_name = l->name;
+    walk w = begin(&r, 1);
+    memcpy(w.record_due, record, 80);
+    memset(w.workspace_due, 0, 4 * r.workspace_len);
+    memcpy(w.workspace_due, l->found.words, sizeof l->found.words);
+    memcpy(w.record, w.record_due, 80);
+    memcpy(w.workspace, w.workspace_due, 4 * r.workspace_len);
+    oracle_answer a = call_and_compare(&w, STEP, &r);
+    bool is_due = a.kind == 3 && w.record_due[2] == l->due.count && memcmp(w.workspace_due, l->due.words, sizeof l->due.words) == 0;
+    if (!is_due) disagree("the oracle", &r, "another table than the one listed");
+    end(&w);
+}
+
+static void try_linkings(void)
+{
+    size_t n = sizeof linkings / sizeof linkings[0];
+    for (case_number = 0; case_number < n; case_number++) {
+        try_linking(&linkings[case_number], 1, 2);
+        try_linking(&linkings[case_number], 2, 1);
+    }
+    printf("links on tables written by hand: %zu agree, both ways round\n", n);
+}
+
 // ---- damage
 
 static uint64_t random_word(random_source *s, uint64_t now)
@@ -407,10 +461,11 @@ static void random_limits(random_source *s, oracle_request *r, const oracle_hist
     r->workspace_len = need_of(r) + random_below(s, 10);
 }
 
-static void count_step(const policy_command *c, tally *n)
+static void count_step(const oracle_step *s, tally *n)
 {
-    n->passed += c->code == 0x51;
-    n->granted += c->code == 0x13;
+    n->passed += s->command.code == 0x51;
+    n->granted += s->command.code == 0x13;
+    n->back += s->links_back;
 }
 
 static void run_walk(random_source *s, walk *w, const oracle_history *h, tally *n)
@@ -421,7 +476,7 @@ static void run_walk(random_source *s, walk *w, const oracle_history *h, tally *
         if (random_below(s, 3) == 0) try_damage(s, w, n);
         if (steps < h->steps && random_below(s, 4) == 0) call_and_compare(w, VERDICT, &w->r); // 18: not at the end
         a = call_and_compare(w, STEP, &w->r);
-        if (a.kind == 3) count_step(&h->step[steps].command, n), compare_meaning(w, h, ++steps);
+        if (a.kind == 3) count_step(&h->step[steps], n), compare_meaning(w, h, ++steps);
         n->steps++;
     }
     if (a.kind == 2 || a.kind == 4) call_and_compare(w, STEP, &w->r); // the same again
@@ -434,8 +489,7 @@ static void try_walk(random_source *s, tally *n)
     uint8_t sheet[RANDOM_SHEET_ROOM];
     unsigned atoms = random_below(s, 6), rules = random_below(s, 5) + (atoms == 0);
     oracle_request r = {sheet, 0, 1024, 1024, 0, 0, SIZE_MAX, 0, 0, 3 + random_below(s, 2)};
-    r.sheet_len = random_below(s, 2) ? random_parts(s, sheet, atoms, rules, 2 + random_below(s, POLICY_GROUPS - 1))
-                                     : random_policy(s, sheet, atoms, rules, 1 + random_below(s, POLICY_GROUPS - 2));
+    r.sheet_len = random_sound(s, sheet, atoms, rules);
     if (random_below(s, 2)) random_grants(s, sheet, r.sheet_len);
     if (random_below(s, 2)) r.sheet_len = random_names(s, sheet, r.sheet_len);
     if (random_below(s, 3) == 0) r.pins_in = random_mask(s, atoms, 4);
@@ -474,15 +528,19 @@ int main(int arguments, char **argument)
     record_room = lent_new(80);
     workspace_room = lent_new(4 * 400000);
     answer_room = lent_new(8 * 8);
+    try_linkings();
     case_name = "random walk";
     for (case_number = 0; case_number < walks; case_number++) try_walk(&s, &n);
     case_name = "refused start";
     for (case_number = 0; case_number < walks; case_number++) try_refused_start(&s);
-    printf("walks %" PRIu64 ": ended %" PRIu64 ", full %" PRIu64 "; steps %" PRIu64 ", over names %" PRIu64 ", over granted copies %" PRIu64 "\n",
-           n.walks, n.ended, n.full, n.steps, n.passed, n.granted);
+    printf("walks %" PRIu64 ": ended %" PRIu64 ", full %" PRIu64 "\n", n.walks, n.ended, n.full);
+    printf("steps %" PRIu64 ": over names %" PRIu64 ", over granted copies %" PRIu64 ", over links that go back %" PRIu64 "\n", n.steps, n.passed,
+           n.granted, n.back);
     printf("damaged records and workspaces %" PRIu64 ", other arguments %" PRIu64 ": [18] %" PRIu64 ", [15] or [16] %" PRIu64
            ", [1] to [13] %" PRIu64 ", acted on %" PRIu64 "\n", n.damaged, n.others, n.records, n.fulls, n.refused, n.acted);
-    if (n.ended < 100 || n.full < 100 || n.passed < 100 || n.granted < 100 || n.records < 100 || n.fulls < 10 || n.refused < 100 || n.acted < 100) {
+    bool is_thin = n.ended < 100 || n.full < 100 || n.passed < 100 || n.granted < 100 || n.back < 100;
+    if (n.records < 100 || n.fulls < 10 || n.refused < 100 || n.acted < 100) is_thin = true;
+    if (is_thin) {
         printf("some outcome came up too seldom\n");
         return 1;
     }

@@ -9,6 +9,7 @@ use Rattle.lists.specs.Sorted.{compareNumbers, second, Rising, setOf}
 use Rattle.lists.proofs.Canon.{length-canon, length-canon-map}
 use Rattle.labels.specs.Labels.{labelCount}
 use Rattle.expression.specs.declared.Command.{Command}
+use Rattle.expression.specs.declared.Command.the-variants.{Atom, Rule, Union, Relabel, Connect, Name}
 use Rattle.expression.specs.declared.Effect.the-variants.{Change}
 use Rattle.expression.specs.Limits.{depthLimit}
 use Rattle.semantics.specs.Expressions.{changeNewest}
@@ -17,7 +18,7 @@ use Rattle.decisions.specs.Decisions.{newest, pairsFault}
 use Rattle.values.specs.declared.Value.{Value}
 use Rattle.values.specs.Values.{noValue, inLow}
 use Rattle.rows.specs.Rows.{Fit}
-use Rattle.batches.specs.Batches.{step, steps, cleaned, batchPair}
+use Rattle.batches.specs.Batches.{step, reversed, steps, cleaned, batchPair}
 use Rattle.entries.specs.declared.Carry.{Carry}
 use Rattle.entries.specs.declared.Carry.the-variants.{Nothing, First, Consequences}
 use Rattle.entries.specs.Carries.{Entry, entryAlgebra, valuesIn}
@@ -33,10 +34,19 @@ use Rattle.advances.proofs.Steps.{fault-none}
 
 -- ---- a pair has no more subsets then
 
+reversed-long : (K : ℕ) (c : Command) (x : List ℕ) → length (subsets (reversed K c x)) ≡ length (subsets x)
+unfolding reversed step
+reversed-long K (Rule g) x = refl
+reversed-long K (Relabel i j) x = refl
+reversed-long K (Connect k i j) x = length-map (subsets x) _
+reversed-long K (Atom g) x = refl
+reversed-long K Union x = refl
+reversed-long K (Name at) x = refl
+
 steps-long : (K : ℕ) (cs : List Command) (x : List ℕ) → length (subsets (steps K cs x)) ≡ length (subsets x)
 unfolding steps step
 steps-long K [] x = refl
-steps-long K (c ∷ cs) x = steps-long K cs (step K c x) ∙ length-map (subsets x) _
+steps-long K (c ∷ cs) x = steps-long K cs (reversed K c (step K c x)) ∙ reversed-long K c (step K c x) ∙ length-map (subsets x) _
 
 subsets-long : (x : Pair) → 0 < length x → length x ≡ length (subsets x) + 1
 subsets-long [] l = absurd (omega arith)

@@ -1,4 +1,4 @@
--- Several commands on a pair at once: relabels, connects and unions with a rule, over K labels; and a rule with its connects as one word. Assumes nothing.
+-- Several commands on a pair at once: relabels, links and unions with a rule, over K labels; and a rule with its connects as one word. Assumes nothing.
 use mathlib.Core.Bool.{Bool, cond, not, _||_}
 use mathlib.Core.List.{List, [], _∷_, map}
 use Prim.Native.Nat.{ℕ, _+_, _-_, _*_, _/_, _%_, _^_, _<_, min}
@@ -57,7 +57,7 @@ unfoldable pub isMet : Judge → ℕ → ℕ → Bool
 isMet j q r = not (eqb (bitAnd q (j .negative)) 0) || not (eqb (bitAnd r (j .marks)) 0)
 
 module _ (K : ℕ) where
-  -- what a command makes of a triple r, where q is the interpretation's own
+  -- what a command makes of a triple r, where q is the interpretation's own; of a link the first half, by which atoms of label i are put into rules of label j
   unfoldable pub stepTriple : Command → ℕ → ℕ → ℕ
   stepTriple (Rule g) q r = bitOr r (markU K g)
   stepTriple (Relabel i j) q r = relabelTriple K i j r
@@ -70,9 +70,18 @@ module _ (K : ℕ) where
   unfoldable pub step : Command → List ℕ → List ℕ
   step c x = stepTriple c (ownTriple x) (ownTriple x) ∷ map (stepTriple c (ownTriple x)) (subsets x)
 
+  -- 02, Item 11: the other half of a link, by which atoms of label j are put into rules of label i
+  unfoldable pub reversed : Command → List ℕ → List ℕ
+  reversed (Rule g) x = x
+  reversed (Relabel i j) x = x
+  reversed (Connect k i j) x = step (Connect k j i) x
+  reversed (Atom g) x = x
+  reversed Union x = x
+  reversed (Name at) x = x
+
   unfoldable pub steps : List Command → List ℕ → List ℕ
   steps [] x = x
-  steps (c ∷ cs) x = steps cs (step c x)
+  steps (c ∷ cs) x = steps cs (reversed c (step c x))
 
   -- the pair of an own triple with others behind it
   unfoldable pub cleaned : List ℕ → Pair

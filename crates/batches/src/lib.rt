@@ -90,7 +90,7 @@ pub fn command_of(w: u64) -> Command
 }
 
 // The word of a connect.
-fn connect_word(k: Kind, i: u32, j: u32) -> u32
+pub fn connect_word(k: Kind, i: u32, j: u32) -> u32
     requires { ⌜ (i < labelCount) × (j < labelCount) ⌝ }
     ensures { λ w. ⌜ commandOf labelCount w ≡ Connect k i j ⌝ }
 {
@@ -117,7 +117,7 @@ pub fn word_of(c: Command) -> u32
 }
 
 // r with the mark of an unmet rule of label g.
-fn with_rule(g: u32, r: u32) -> u32
+pub fn with_rule(g: u32, r: u32) -> u32
     requires { ⌜ g < labelCount ⌝ }
     ensures { λ s. ⌜ s ≡ bitOr r (markU labelCount g) ⌝ }
 {

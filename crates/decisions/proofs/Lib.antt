@@ -11,3 +11,4 @@ pub mod Words
 pub mod Outcomes
 pub mod Rooms
 pub mod Numbers
+pub mod Links

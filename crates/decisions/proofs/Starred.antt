@@ -55,6 +55,17 @@ circleBy b = 0x11 ∷ 0 ∷ b ∷ 1 ∷ 0x21 ∷ 0x12 ∷ 2 ∷ 0x21 ∷ 0x12 �
 circle : List ℕ
 circle = circleBy 0x11
 
+-- 02, Item 11: the same by links that name the rule's label first
+listedBack : List ℕ
+listedBack = 0x11 ∷ 0 ∷ 0x12 ∷ 1 ∷ 0x21 ∷ 0x41 ∷ 1 ∷ 0 ∷ []
+
+circleBack : List ℕ
+circleBack = 0x11 ∷ 0 ∷ 0x11 ∷ 1 ∷ 0x21 ∷ 0x12 ∷ 2 ∷ 0x21 ∷ 0x12 ∷ 3 ∷ 0x21 ∷ 0x41 ∷ 2 ∷ 0 ∷ 0x42 ∷ 2 ∷ 1 ∷ 0x41 ∷ 3 ∷ 1 ∷ 0x42 ∷ 3 ∷ 0 ∷ []
+
+-- a copy and a rule of each of two labels; each rule makes the other label's copy
+crossed : List ℕ
+crossed = 0x11 ∷ 0 ∷ 0x12 ∷ 0 ∷ 0x21 ∷ 0x11 ∷ 1 ∷ 0x21 ∷ 0x12 ∷ 1 ∷ 0x21 ∷ 0x41 ∷ 0 ∷ 1 ∷ []
+
 -- copy 0, unless copy 1 is kept, which is granted
 barred : List ℕ
 barred = 0x11 ∷ 0 ∷ 0x13 ∷ 1 ∷ 0x21 ∷ 0x12 ∷ 2 ∷ 0x21 ∷ 0x41 ∷ 0 ∷ 2 ∷ 0x43 ∷ 1 ∷ 2 ∷ []
@@ -110,17 +121,25 @@ rows =
     ∷ row barred 32 32 0 0 (Yes 2) (Yes 0)
     ∷ row barred 32 32 0 2 (Yes 1) (Yes 0)
     ∷ row barred 32 32 3 0 No (Yes 0)
+    -- 02, Item 11: a link has no direction; its other half alone makes a copy, bars by the plan's own T, needs, and binds granted copies; both halves at once
+    ∷ row listedBack 32 32 0 0 (Yes 1) (Yes 0)
+    ∷ row (listedBack ++ (0x43 ∷ 1 ∷ 0 ∷ [])) 32 32 0 0 No (Yes 0)
+    ∷ row circleBack 32 32 0 0 (Yes 0) (Yes 0)
+    ∷ row circleBack 32 32 1 0 No (Yes 0)
+    ∷ row (0x13 ∷ 0 ∷ 0x12 ∷ 1 ∷ 0x21 ∷ 0x43 ∷ 1 ∷ 0 ∷ []) 32 32 0 0 (Yes 1) (Yes 0)
+    ∷ row crossed 32 32 0 0 (Yes 3) (Yes 0)
+    ∷ row crossed 32 32 0 2 No No
     ∷ []
 
 starred : map (λ r. groundedOutcome labelCount (r .asked)) rows ≡ map (λ r. r .says) rows
-unfolding rows row listed circleBy circle barred twins either firstMask chosen saysYes run numbers treeOf expressionOf actAll trees grounded decide conclude answer walk pairsFault groundedAccepts accepting pairs mapPair unitePairs setOf compareLists
+unfolding rows row listed circleBy circle listedBack circleBack crossed barred twins either firstMask chosen saysYes run numbers treeOf expressionOf actAll trees grounded decide conclude answer walk pairsFault groundedAccepts accepting pairs mapPair unitePairs setOf compareLists
     commandsIn assumed byMasks check checks overlongTest limitsTest crampedTest clashTest faultTest unjoinedTest absentTest depthOf isLimit countsOf faultPlace faultNumber isFaulty firstOf reading readFrom behind countFault counted effect noCounts readAt readCommand commandOf operandCount isCommand
     twoOperands oneOperand act uniteNewest changeNewest allMet connectTriple settles relabelTriple markT markF
     markU tables leaf some products canon insertAll insert compareNumbers has without replace
 starred = refl
 
 starred-plain : map (λ r. plainOutcome labelCount (r .asked)) rows ≡ map (λ r. r .plainly) rows
-unfolding rows row listed circleBy circle barred twins either plain decide conclude answer walk plainFault plainAccepts triples commandsIn assumed byMasks check checks overlongTest limitsTest crampedTest clashTest faultTest unjoinedTest absentTest depthOf isLimit countsOf faultPlace faultNumber isFaulty firstOf reading readFrom behind countFault counted effect noCounts readAt readCommand commandOf operandCount isCommand
+unfolding rows row listed circleBy circle listedBack circleBack crossed barred twins either plain decide conclude answer walk plainFault plainAccepts triples commandsIn assumed byMasks check checks overlongTest limitsTest crampedTest clashTest faultTest unjoinedTest absentTest depthOf isLimit countsOf faultPlace faultNumber isFaulty firstOf reading readFrom behind countFault counted effect noCounts readAt readCommand commandOf operandCount isCommand
     twoOperands oneOperand act uniteNewest changeNewest allMet connectTriple settles relabelTriple markT markF
     markU tables leaf some products canon insertAll insert compareNumbers has without replace
 starred-plain = refl

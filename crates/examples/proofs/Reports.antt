@@ -54,6 +54,13 @@ listed = 0x11 ∷ 0 ∷ 0x12 ∷ 1 ∷ 0x21 ∷ 0x41 ∷ 0 ∷ 1 ∷ []
 twins : List ℕ
 twins = 0x11 ∷ 0 ∷ 0x11 ∷ 0 ∷ 0x21 ∷ []
 
+-- 02, Item 11: the listed sheet by a link that names the rule's label first; a copy and a rule of each of two labels, linked
+listedBack : List ℕ
+listedBack = 0x11 ∷ 0 ∷ 0x12 ∷ 1 ∷ 0x21 ∷ 0x41 ∷ 1 ∷ 0 ∷ []
+
+crossed : List ℕ
+crossed = 0x11 ∷ 0 ∷ 0x12 ∷ 0 ∷ 0x21 ∷ 0x11 ∷ 1 ∷ 0x21 ∷ 0x12 ∷ 1 ∷ 0x21 ∷ 0x41 ∷ 0 ∷ 1 ∷ []
+
 granted : List ℕ
 granted = 0x13 ∷ 0 ∷ 0x11 ∷ 1 ∷ 0x21 ∷ []
 
@@ -89,6 +96,10 @@ rows =
     -- 02, Item 9: an external atom has the pairs of 11, both without subsets; the smaller ones of two leave out the other atom alone
     ∷ row granted 32 32 0 9 (Written 2 4) (1 ∷ 0 ∷ 1024 ∷ 0 ∷ []) (Written 2 2) (1 ∷ 1024 ∷ [])
     ∷ row granted 32 32 4 10 (Written 4 10) (3 ∷ 1 ∷ 2049 ∷ 1026 ∷ 1 ∷ 3072 ∷ 2049 ∷ 0 ∷ 3072 ∷ 0 ∷ []) (Written 4 4) (3 ∷ 1026 ∷ 2049 ∷ 3072 ∷ [])
+    -- 02, Item 11: the other half of a link alone, and both at once
+    ∷ row listedBack 32 32 5 8 (Written 2 5) (1 ∷ 1 ∷ 2098176 ∷ 2098176 ∷ 0 ∷ []) (Written 2 2) (1 ∷ 2098176 ∷ [])
+    ∷ row crossed 32 32 11 13 (Written 4 13) (3 ∷ 3 ∷ 1050625 ∷ 2098178 ∷ 3148800 ∷ 1050625 ∷ 1 ∷ 3148800 ∷ 2098178 ∷ 1 ∷ 3148800 ∷ 3148800 ∷ 0 ∷ [])
+    (Written 4 4) (3 ∷ 1050625 ∷ 2098178 ∷ 3148800 ∷ [])
     ∷ []
 
 -- what is left of a buffer of 9s
@@ -102,28 +113,28 @@ abbrev triplesOf : Row → Asked ℕ
 triplesOf r = askedTable (triples labelCount) (plainFault (r .P)) labelCount (asked r) (r .offset)
 
 answer-examples : map (λ r. reportAnswer (reportOf Pairs) (r .room) (r .offset) (pairsOf r)) rows ≡ map (λ r. r .answers) rows
-unfolding rows row refusal asked listed twins granted written askedTable startsAt reportOf entryWords before walk commandsIn pairsFault plainFault assumed byMasks locate locateFrom check checks overlongTest limitsTest crampedTest
+unfolding rows row refusal asked listed twins listedBack crossed granted written askedTable startsAt reportOf entryWords before walk commandsIn pairsFault plainFault assumed byMasks locate locateFrom check checks overlongTest limitsTest crampedTest
     clashTest faultTest unjoinedTest absentTest depthOf isLimit countsOf faultPlace faultNumber isFaulty firstOf reading readFrom behind countFault counted effect noCounts readAt readCommand
     commandOf operandCount isCommand twoOperands oneOperand act uniteNewest changeNewest pairs triples mapPair unitePairs connectTriple settles relabelTriple markT markF markU tables leaf some products setOf
     canon insertAll insert compareLists compareNumbers has without replace
 answer-examples = refl
 
 buffer-examples : map (λ r. reportBuffer (reportOf Pairs) (replicate (r .room) 9) (pairsOf r)) rows ≡ map (λ r. written (r .room) (r .writes)) rows
-unfolding rows row refusal asked listed twins granted written askedTable startsAt reportOf entryWords before walk commandsIn pairsFault plainFault assumed byMasks locate locateFrom check checks overlongTest limitsTest crampedTest
+unfolding rows row refusal asked listed twins listedBack crossed granted written askedTable startsAt reportOf entryWords before walk commandsIn pairsFault plainFault assumed byMasks locate locateFrom check checks overlongTest limitsTest crampedTest
     clashTest faultTest unjoinedTest absentTest depthOf isLimit countsOf faultPlace faultNumber isFaulty firstOf reading readFrom behind countFault counted effect noCounts readAt readCommand
     commandOf operandCount isCommand twoOperands oneOperand act uniteNewest changeNewest pairs triples mapPair unitePairs connectTriple settles relabelTriple markT markF markU tables leaf some products setOf
     canon insertAll insert compareLists compareNumbers has without replace
 buffer-examples = refl
 
 plain-answer-examples : map (λ r. reportAnswer (λ t. t) (r .room) (r .offset) (triplesOf r)) rows ≡ map (λ r. r .plainly) rows
-unfolding rows row refusal asked listed twins granted written askedTable startsAt reportOf entryWords before walk commandsIn pairsFault plainFault assumed byMasks locate locateFrom check checks overlongTest limitsTest crampedTest
+unfolding rows row refusal asked listed twins listedBack crossed granted written askedTable startsAt reportOf entryWords before walk commandsIn pairsFault plainFault assumed byMasks locate locateFrom check checks overlongTest limitsTest crampedTest
     clashTest faultTest unjoinedTest absentTest depthOf isLimit countsOf faultPlace faultNumber isFaulty firstOf reading readFrom behind countFault counted effect noCounts readAt readCommand
     commandOf operandCount isCommand twoOperands oneOperand act uniteNewest changeNewest pairs triples mapPair unitePairs connectTriple settles relabelTriple markT markF markU tables leaf some products setOf
     canon insertAll insert compareLists compareNumbers has without replace
 plain-answer-examples = refl
 
 plain-buffer-examples : map (λ r. reportBuffer (λ t. t) (replicate (r .room) 9) (triplesOf r)) rows ≡ map (λ r. written (r .room) (r .plainWrites)) rows
-unfolding rows row refusal asked listed twins granted written askedTable startsAt reportOf entryWords before walk commandsIn pairsFault plainFault assumed byMasks locate locateFrom check checks overlongTest limitsTest crampedTest
+unfolding rows row refusal asked listed twins listedBack crossed granted written askedTable startsAt reportOf entryWords before walk commandsIn pairsFault plainFault assumed byMasks locate locateFrom check checks overlongTest limitsTest crampedTest
     clashTest faultTest unjoinedTest absentTest depthOf isLimit countsOf faultPlace faultNumber isFaulty firstOf reading readFrom behind countFault counted effect noCounts readAt readCommand
     commandOf operandCount isCommand twoOperands oneOperand act uniteNewest changeNewest pairs triples mapPair unitePairs connectTriple settles relabelTriple markT markF markU tables leaf some products setOf
     canon insertAll insert compareLists compareNumbers has without replace

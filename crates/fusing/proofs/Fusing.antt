@@ -8,7 +8,7 @@ use lib.ListN.{length, take, drop, set, getD, drop-of-length-le, length-set}
 use lib.Seq.{drop-cons, take-suc, take-suc-set, getD-set-other}
 use Rattle.expression.specs.declared.Command.{Command}
 use Rattle.tables.specs.Definitions.{ownTriple, subsets}
-use Rattle.batches.specs.Batches.{commandOf, stepTriple, step, steps, wordTriple, wordStep, wordSteps}
+use Rattle.batches.specs.Batches.{commandOf, stepTriple, step, reversed, steps, wordTriple, wordStep, wordSteps}
 use Rattle.batches.proofs.Words.{map-same}
 
 -- ---- a word for a command
@@ -96,7 +96,7 @@ module _ (K : ℕ) (code : List ℕ) (m s : ℕ) (x : List ℕ) (l : 2 ≤ m) (k
 
 -- ---- the commands left
 
-pub next-command : (K : ℕ) (goal ops : List ℕ) (k : ℕ) → k < length ops → (y z : List ℕ) → steps K (map (commandOf K) (drop k ops)) y ≡ goal → z ≡ step K (commandOf K (getD ops k 0)) y
+pub next-command : (K : ℕ) (goal ops : List ℕ) (k : ℕ) → k < length ops → (y z : List ℕ) → steps K (map (commandOf K) (drop k ops)) y ≡ goal → z ≡ reversed K (commandOf K (getD ops k 0)) (step K (commandOf K (getD ops k 0)) y)
     → steps K (map (commandOf K) (drop (k + 1) ops)) z ≡ goal
 unfolding steps
 next-command K goal ops k l y z h e = rw (e, add-one k) (rw (drop-cons ops k 0 l) at h)

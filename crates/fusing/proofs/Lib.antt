@@ -2,3 +2,4 @@ pub mod Judging
 pub mod Leaving
 pub mod Words
 pub mod Fusing
+pub mod Marks

@@ -6,19 +6,23 @@ use batches::Judge;
 use batches::NEGATIVES;
 use batches::RULES;
 use batches::command_of;
+use batches::connect_word;
 use batches::judge_of;
+use batches::with_rule;
 use expression::Command;
 use expression::Kind;
 ghost use mathlib.Core.Path.{_≡_};
-ghost use mathlib.Core.Bool.{_||_};
+ghost use mathlib.Core.Bool.{true, _||_};
 ghost use mathlib.Core.List.{List};
-ghost use Prim.Native.Nat.{ℕ, _+_, _≤_, _<_};
+ghost use Prim.Native.Nat.{ℕ, _+_, _*_, _≤_, _<_};
 ghost use lib.ListN.{length, take};
 ghost use Rattle.labels.specs.Labels.{labelCount};
-ghost use Rattle.labels.specs.Sets.{has};
+ghost use Rattle.labels.specs.Sets.{has, Within};
 ghost use Rattle.expression.specs.Commands.{Suits};
 ghost use Rattle.tables.specs.Triples.{settles};
-ghost use Rattle.batches.specs.Batches.{commandOf, commandsOf, stepTriple, step, steps, isMet, Fits, judgesFrom, judgeOf, wordTriple, wordSteps};
+ghost use Rattle.marks.specs.Marks.{Marked};
+ghost use Rattle.batches.specs.Batches.{commandOf, commandsOf, stepTriple, step, reversed, steps, isMet, Fits, judgesFrom, judgeOf, wordTriple, wordSteps};
+ghost use Rattle.fusing.specs.Fusing.{marksAfter};
 
 // labels::LABELS at the width of a word.
 const LABELS: u32 = labels::LABELS as u32;
@@ -119,17 +123,31 @@ fn alone(w: u32) -> u64
     w as u64
 }
 
-// The command of a word comes behind the first m words of code. The answer is how many they are then.
-fn put_word(code: &mut [u64], m: usize, w: u32) -> usize
-    requires { ⌜ m < length (now code) ⌝ }
-    ensures { λ r. ⌜ (r ≤ m + 1) × ((x : List ℕ) → wordSteps labelCount (take r (now (code .exit))) x ≡ step labelCount (commandOf labelCount w) (wordSteps labelCount (take m (now (code .entry))) x)) ⌝ }
+// Whether the command is a connect that changes no triple with no marks but these: it changes nothing of the marks themselves.
+fn is_idle(c: Command, marks: u32) -> bool
+    requires { ⌜ Suits labelCount c ⌝ }
+    ensures { λ b. ⌜ (b ≡ true → (q r : ℕ) → Within marks q → Within marks r → stepTriple labelCount c q r ≡ r) ⌝ }
+{
+    let Command::Connect(_, _, _) = c else {
+        return false;
+    };
+    candidates::map_triple(c, marks, marks) == marks
+}
+
+// The command c of a word w comes behind the first m words of code, unless it is idle. The answer is how many they are then.
+fn put_word(code: &mut [u64], m: usize, c: Command, w: u32, marks: u32) -> usize
+    requires { ⌜ (m < length (now code)) × (c ≡ commandOf labelCount w) ⌝ }
+    ensures { λ r. ⌜ (r ≤ m + 1) × ((x : List ℕ) → Marked marks (wordSteps labelCount (take m (now (code .entry))) x) → wordSteps labelCount (take r (now (code .exit))) x ≡ step labelCount c (wordSteps labelCount (take m (now (code .entry))) x)) ⌝ }
 {
     if 0 < m {
-        let s = joined(code[m - 1], command_of(w as u64));
+        let s = joined(code[m - 1], c);
         if 0 < s {
             code[m - 1] = s;
             return m;
         }
+    }
+    if is_idle(c, marks) {
+        return m;
     }
     code[m] = alone(w);
     m + 1
@@ -202,16 +220,65 @@ fn lighten(code: &mut [u64], m: usize)
     }
 }
 
-// Words for the commands of ops, no more than they are. The answer is how many.
-pub fn fuse(code: &mut [u64], ops: &[u32]) -> usize
-    requires { ⌜ length (now ops) ≤ length (now code) ⌝ }
-    ensures { λ r. ⌜ (r ≤ length (now (code .exit))) × ((x : List ℕ) → wordSteps labelCount (take r (now (code .exit))) x ≡ steps labelCount (commandsOf (now (ops .entry))) x) ⌝ }
+// The other half of a link (02, Item 11) comes behind them, unless it is idle, as it mostly is.
+fn put_reverse(code: &mut [u64], m: usize, c: Command, marks: u32) -> usize
+    requires { ⌜ (m < length (now code)) × Suits labelCount c ⌝ }
+    ensures { λ r. ⌜ (r ≤ m + 1) × ((x : List ℕ) → Marked marks (wordSteps labelCount (take m (now (code .entry))) x) → wordSteps labelCount (take r (now (code .exit))) x ≡ reversed labelCount c (wordSteps labelCount (take m (now (code .entry))) x)) ⌝ }
+{
+    match c {
+        Command::Connect(k, i, j) => {
+            let back = Command::Connect(k, j, i);
+            if is_idle(back, marks) {
+                return m;
+            }
+            put_word(code, m, back, connect_word(k, j, i), marks)
+        }
+        Command::Relabel(_, _) => m,
+        Command::Rule(_) => m,
+        Command::Atom(_) => m,
+        Command::Union => m,
+        Command::Name(_) => m,
+    }
+}
+
+// The marks that triples may have after a command.
+fn marks_after(c: Command, marks: u32) -> u32
+    requires { ⌜ Suits labelCount c ⌝ }
+    ensures { λ m. ⌜ m ≡ marksAfter labelCount c marks ⌝ }
+{
+    match c {
+        Command::Rule(g) => with_rule(g, marks),
+        Command::Relabel(_, _) => candidates::map_triple(c, marks, marks),
+        Command::Connect(_, _, _) => marks,
+        Command::Atom(_) => marks,
+        Command::Union => marks,
+        Command::Name(_) => marks,
+    }
+}
+
+// The command of a word of ops.
+fn command_in(w: u32) -> Command
+    ensures { λ c. ⌜ (c ≡ commandOf labelCount w) × Suits labelCount c ⌝ }
+{
+    command_of(w as u64)
+}
+
+// Words for the commands of ops on pairs with no marks but these. A link is two connects at most: a half that could touch no mark is left out, so a rule
+// whose label has no atoms is one word with its links. The answer is how many words.
+pub fn fuse(code: &mut [u64], ops: &[u32], marks: u32) -> usize
+    requires { ⌜ 2 * length (now ops) ≤ length (now code) ⌝ }
+    ensures { λ r. ⌜ (r ≤ length (now (code .exit))) × ((x : List ℕ) → Marked marks x → wordSteps labelCount (take r (now (code .exit))) x ≡ steps labelCount (commandsOf (now (ops .entry))) x) ⌝ }
 {
     let mut m = 0;
+    let mut seen = marks;
     let mut k = 0;
     while k < ops.len() {
-        m = put_word(code, m, ops[k]);
+        let w = ops[k];
+        let c = command_in(w);
+        m = put_word(code, m, c, w, seen);
         lighten(code, m);
+        seen = marks_after(c, seen);
+        m = put_reverse(code, m, c, seen);
         k += 1;
     }
     m

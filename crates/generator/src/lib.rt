@@ -216,7 +216,7 @@ fn styled_command(style: u64, turn: u64, x: u64, depth: u64) -> u8 {
     command(turn, x, depth)
 }
 
-// One of the first 2, 3 or 5 labels, or of all.
+// One of the first 2, 3 or 5 labels, or of all, for atoms and rules alike: so either label of a link may have both (02, Item 11).
 fn label(x: u64, spread: u64) -> u8 {
     match spread % 4 {
         0 => (x % 2) as u8,

@@ -14,8 +14,7 @@ use Rattle.candidates.specs.Candidates.{pairOf, Readable}
 use Rattle.rows.specs.Parts.{part}
 use Rattle.rows.specs.Rows.{Fit, rowsIn, Rows, slot}
 use Rattle.rows.proofs.Parts.{part-part}
-use Rattle.rows.proofs.Tables.{row-within, length-rowsIn, rowsIn-at, slot-at}
-use Rattle.rows.proofs.Single.{row-readable}
+use Rattle.rows.proofs.Tables.{length-rowsIn, rowsIn-at, slot-is, readable-slot}
 use Rattle.entries.specs.declared.Carry.{Carry}
 use Rattle.entries.specs.Carries.{valuesIn, Beside, Entry}
 use Rattle.entries.proofs.Entering.{none, length-with, with-at}
@@ -33,22 +32,15 @@ module _ (carry : Carry) (w p b n : ℕ) (others wsₛ : List ℕ) (within : b +
   pub entries-long : length bs ≡ n
   entries-long = length-with (rowsIn w n area) (valuesIn carry n others) ∙ length-rowsIn w n area
 
-  row-of : (j : ℕ) → j < n → slot w j area ≡ part (b + j * w) w wsₛ
-  row-of j l = let z = row-within j p w (omega (arith, t .room)) in part-part b (p * w) (j * w) w wsₛ (omega arith) within
-
   pub readable-row : (j : ℕ) → j < n → Readable (part (b + j * w) w wsₛ)
-  readable-row j l =
-      let xs : List Pair = rowsIn w n area in
-      let k = length-rowsIn w n area in
-      let e = sym (slot-at w p xs j (t .fit) (omega (arith, k, t .room)) (omega (arith, k))) ∙ ap (slot w j) (sym (t .words)) ∙ row-of j l in
-      subst Readable e (row-readable w (getD xs j []) (all-get (Fit w) [] xs j (t .fit) (omega (arith, k))))
+  readable-row j l = readable-slot w p b n wsₛ within t j l
 
   -- the j-th one, where its row is as it was
   pub entry-at : (j : ℕ) → j < n → (v : Value) → v ≡ getD (valuesIn carry n others) j noValue → (ws : List ℕ) → part (b + j * w) w ws ≡ part (b + j * w) w wsₛ → getD bs j none ≡ entryAt w (b + j * w) v ws
   entry-at j l v ev ws e =
       let k = length-rowsIn w n area in
       with-at (rowsIn w n area) (valuesIn carry n others) j (values-long carry n others beside ∙ sym k) (omega (arith, k))
-      ∙ (λ i. record { item = (rowsIn-at w n area j l ∙ ap pairOf (row-of j l ∙ sym e)) i; value = sym ev i })
+      ∙ (λ i. record { item = (rowsIn-at w n area j l ∙ ap pairOf (slot-is w p b n wsₛ within t j l ∙ sym e)) i; value = sym ev i })
 
   pub entries-from : (j : ℕ) → j < n → drop j bs ≡ getD bs j none ∷ drop (j + 1) bs
   entries-from j l = rw (add-one j) (drop-cons bs j none (omega (arith, entries-long)))

@@ -11,19 +11,21 @@ use Rattle.lists.specs.Sorted.{compareNumbers, compareLists, second, byOrder, i
 use Rattle.lists.proofs.Comparisons.{numbers-lawful, lists-lawful}
 use Rattle.lists.proofs.Canon.{rising-canon, canon-rising, canon-map}
 use Rattle.labels.specs.Labels.{labelCount}
+use Rattle.expression.specs.declared.Kind.{Kind}
 use Rattle.expression.specs.declared.Command.{Command}
-use Rattle.expression.specs.declared.Command.the-variants.{Rule}
+use Rattle.expression.specs.declared.Command.the-variants.{Atom, Rule, Union, Relabel, Connect, Name}
 use Rattle.tables.specs.Triples.{markU}
 use Rattle.tables.specs.Definitions.{Pair, ownTriple, subsets, unitePairs, pairs}
 use Rattle.values.specs.declared.Value.{Value}
 use Rattle.values.specs.Values.{valued, inLow}
 use Rattle.values.proofs.Consequences.{consequences-semiring}
-use Rattle.batches.specs.Batches.{stepTriple, step, steps, cleaned, batchPair}
+use Rattle.batches.specs.Batches.{stepTriple, step, reversed, steps, cleaned, batchPair}
 use Rattle.entries.specs.declared.Carry.{Carry}
 use Rattle.entries.specs.declared.Carry.the-variants.{Nothing, First, Consequences}
 use Rattle.entries.specs.Carries.{Entry, entryAlgebra, carriedBy}
 use Rattle.making.specs.Making.{tableOfAll}
 use Rattle.maps.specs.Maps.{batched, batchedTable, Small}
+use Rattle.maps.proofs.Mapping.{by}
 use Rattle.maps.proofs.Merging.{map-all}
 
 -- ---- pairs
@@ -37,16 +39,28 @@ module _ (K : ℕ) where
   unfolding cleaned step setOf
   clean-step c y = ap (λ (s : List ℕ). stepTriple K c (ownTriple y) (ownTriple y) ∷ s) (canon-map numbers-lawful numbers-lawful (stepTriple K c (ownTriple y)) (subsets y))
 
+  clean-both : (c : Command) (y : List ℕ) → cleaned K (reversed K c (step K c (cleaned K y))) ≡ cleaned K (reversed K c (step K c y))
+  unfolding reversed
+  clean-both (Rule g) y = clean-step (Rule g) y
+  clean-both (Relabel i j) y = clean-step (Relabel i j) y
+  clean-both (Connect k i j) y =
+      sym (clean-step (Connect k j i) (step K (Connect k i j) (cleaned K y)))
+      ∙ ap (λ z. cleaned K (step K (Connect k j i) z)) (clean-step (Connect k i j) y)
+      ∙ clean-step (Connect k j i) (step K (Connect k i j) y)
+  clean-both (Atom g) y = clean-step (Atom g) y
+  clean-both Union y = clean-step Union y
+  clean-both (Name at) y = clean-step (Name at) y
+
   -- subsets may be put in order in between
   absorb : (cs : List Command) (y : List ℕ) → batchPair K cs (cleaned K y) ≡ batchPair K cs y
   unfolding batchPair steps
   absorb [] y = clean-twice y
   absorb (c ∷ cs) y =
-      sym (absorb cs (step K c (cleaned K y))) ∙ ap (batchPair K cs) (clean-step c y) ∙ absorb cs (step K c y)
+      sym (absorb cs (reversed K c (step K c (cleaned K y)))) ∙ ap (batchPair K cs) (clean-both c y) ∙ absorb cs (reversed K c (step K c y))
 
   pair-more : (c : Command) (cs : List Command) (x : Pair) → batchPair K cs (batchPair K (c ∷ []) x) ≡ batchPair K (c ∷ cs) x
   unfolding batchPair steps
-  pair-more c cs x = absorb cs (step K c x)
+  pair-more c cs x = absorb cs (reversed K c (step K c x))
 
 no-products : (xs : List ℕ) → products bitOr xs [] ≡ []
 unfolding products
@@ -54,7 +68,7 @@ no-products [] = refl
 no-products (x ∷ xs) = no-products xs
 
 rule-pair : (g : ℕ) (x : Pair) → unitePairs x (markU labelCount g ∷ []) ≡ batchPair labelCount (Rule g ∷ []) x
-unfolding unitePairs batchPair cleaned steps step stepTriple
+unfolding unitePairs batchPair cleaned steps reversed step stepTriple
 rule-pair g x = rw (no-products (subsets x))
 
 -- ---- tables
@@ -73,16 +87,27 @@ map-map : (f g h : Entry → Entry) → ((x : Entry) → f (g x) ≡ h x) → (t
 map-map f g h e [] = refl
 map-map f g h e (x ∷ t) = ap₂ {C = List Entry} (λ y l. y ∷ l) (e x) (map-map f g h e t)
 
+-- what one half of a link makes of a pair
+abbrev pub half : Kind → ℕ → ℕ → Pair → Pair
+half k i j x = cleaned labelCount (step labelCount (Connect k i j) x)
+
 module _ (carry : Carry) where
-  in-order : (cs : List Command) (t : List Entry) → tableOfAll carry (map (batched cs) (tableOfAll carry t)) ≡ tableOfAll carry (map (batched cs) t)
+  in-order : (f : Pair → Pair) (t : List Entry) → tableOfAll carry (map (by f) (tableOfAll carry t)) ≡ tableOfAll carry (map (by f) t)
   unfolding tableOfAll entryAlgebra valued pairs
-  in-order cs t = map-all lists-lawful (carriedBy carry .either) (either-turns carry) (either-joins carry) (batchPair labelCount cs) t
+  in-order f t = map-all lists-lawful (carriedBy carry .either) (either-turns carry) (either-joins carry) f t
 
   -- the first command, then the others
   pub batch-more : (c : Command) (cs : List Command) (t : List Entry) → batchedTable carry cs (batchedTable carry (c ∷ []) t) ≡ batchedTable carry (c ∷ cs) t
   batch-more c cs t =
-      in-order cs (map (batched (c ∷ [])) t)
+      in-order (batchPair labelCount cs) (map (batched (c ∷ [])) t)
       ∙ ap (tableOfAll carry) (map-map (batched cs) (batched (c ∷ [])) (batched (c ∷ cs)) (λ x. ap (λ (y : Pair). record { item = y; value = x .value }) (pair-more labelCount c cs (x .item))) t)
+
+  -- a link is its two halves, one after the other
+  pub link-halves : (k : Kind) (i j : ℕ) (t : List Entry) → tableOfAll carry (map (by (half k j i)) (tableOfAll carry (map (by (half k i j)) t))) ≡ batchedTable carry (Connect k i j ∷ []) t
+  unfolding batchPair steps reversed
+  link-halves k i j t =
+      in-order (half k j i) (map (by (half k i j)) t)
+      ∙ ap (tableOfAll carry) (map-map (by (half k j i)) (by (half k i j)) (batched (Connect k i j ∷ [])) (λ x. ap (λ (y : Pair). record { item = y; value = x .value }) (clean-step labelCount (Connect k j i) (step labelCount (Connect k i j) (x .item)))) t)
 
   unit-small : (x : Entry) → Small carry x → carriedBy carry .together (x .value) (carriedBy carry .unit) ≡ x .value
   unit-small = go carry

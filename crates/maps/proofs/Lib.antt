@@ -1,4 +1,3 @@
 pub mod Mapping
-pub mod Algebras
 pub mod Merging
 pub mod Composing

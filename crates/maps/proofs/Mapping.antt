@@ -5,17 +5,20 @@ use Prim.Native.Nat.{ℕ, _+_, _*_, _≤_, _<_}
 use native.Mathlib.Decide.{decLe}
 use native.Mathlib.Omega.{arith}
 use lib.ListN.{length, take, drop, getD, List·getD-map}
+use Rattle.lists.specs.Lists.{All}
 use Rattle.lists.proofs.Canon.{length-canon-map}
 use Rattle.labels.specs.Labels.{labelCount}
 use Rattle.tables.specs.Definitions.{Pair}
 use Rattle.values.specs.declared.Value.{Value}
 use Rattle.values.specs.Values.{noValue, inLow}
 use Rattle.rows.specs.Parts.{part}
+use Rattle.marks.specs.Marks.{Marked}
 use Rattle.rows.specs.Rows.{Rows}
 use Rattle.batches.specs.Batches.{commandsOf, steps, cleaned, batchPair, wordSteps, wordsPair}
 use Rattle.entries.specs.declared.Carry.{Carry}
 use Rattle.entries.specs.declared.Carry.the-variants.{Nothing, First, Consequences}
 use Rattle.entries.specs.Carries.{Keeps, valuesIn, Beside, Entry, entryAlgebra}
+use Rattle.entries.specs.Entries.{withValues}
 use Rattle.entries.proofs.Keeping.{no-value}
 use Rattle.making.specs.Making.{Making, tableOfAll, entriesAt, entryAt}
 use Rattle.making.proofs.Held.{entries-long, entry-at, entries-from}
@@ -31,13 +34,15 @@ keeps-value Consequences n j old = tt
 abbrev pub by : (Pair → Pair) → Entry → Entry
 by f x = record { item = f (x .item); value = x .value }
 
--- words that do what commands do
-pub worded-is : (code ops : List ℕ) → ((x : List ℕ) → wordSteps labelCount code x ≡ steps labelCount (commandsOf ops) x) → (t : List Entry)
-    → map (worded code) t ≡ map (batched (commandsOf ops)) t
-unfolding wordsPair batchPair
-worded-is code ops e [] = refl
-worded-is code ops e (x ∷ t) =
-    ap₂ {C = List Entry} (λ y l. y ∷ l) (ap (λ (y : List ℕ). record { item = cleaned labelCount y; value = x .value }) (e (x .item))) (worded-is code ops e t)
+-- words that do what commands do on pairs with no marks but those of m
+pub worded-is : (code ops : List ℕ) (m : ℕ) → ((x : List ℕ) → Marked m x → wordSteps labelCount code x ≡ steps labelCount (commandsOf ops) x)
+    → (xs : List Pair) (vs : List Value) → All (Marked m) xs → map (worded code) (withValues xs vs) ≡ map (batched (commandsOf ops)) (withValues xs vs)
+unfolding wordsPair batchPair withValues
+worded-is code ops m e [] vs h = refl
+worded-is code ops m e (x ∷ xs) [] h =
+    ap₂ {C = List Entry} (λ y l. y ∷ l) (ap (λ (y : List ℕ). record { item = cleaned labelCount y; value = noValue }) (e x (h .0))) (worded-is code ops m e xs [] (h .1))
+worded-is code ops m e (x ∷ xs) (v ∷ vs) h =
+    ap₂ {C = List Entry} (λ y l. y ∷ l) (ap (λ (y : List ℕ). record { item = cleaned labelCount y; value = v }) (e x (h .0))) (worded-is code ops m e xs vs (h .1))
 
 -- the n entries of the area at word a
 module _ (carry : Carry) (w p a n : ℕ) (old wsₛ : List ℕ) (within : a + p * w ≤ length wsₛ) (t : Rows w p n (part a (p * w) wsₛ)) (beside : Beside carry n old) (f : Pair → Pair) where

@@ -1,4 +1,4 @@
-// Relabels, connects and unions with a rule on a table, several at once.
+// Relabels, links and unions with a rule on a table, several at once.
 use entries::Carry;
 use values::Value;
 ghost use mathlib.Core.Path.{_≡_};
@@ -12,6 +12,9 @@ ghost use Rattle.batches.specs.Batches.{batchLimit, commandsOf};
 ghost use Rattle.entries.specs.Carries.{Keeps, inWords, valueArea, OnlyArea, Kept};
 ghost use Rattle.making.specs.Making.{Next, Puts, Finished};
 ghost use Rattle.maps.specs.Maps.{wordedAt, wordedAll, batchedAll};
+
+// A link may be two words of code.
+const CODE_LIMIT: usize = 2 * batches::BATCH_LIMIT;
 
 // What words of code make of the pair at word ra, with the value v, put into the table that is being made at word `to`. It has no more subsets than
 // before, so it fits. The answer is the count then; p + 1 where there are more than p rows.
@@ -89,7 +92,8 @@ pub fn map_all(
 }
 
 // The table at word a, of n rows, becomes what the commands make of it; made in the words from `to` on. The values of the two stand at words `old` and
-// `made` of vals. It has no more rows than before; the answer is how many. code is lent for the words.
+// `made` of vals. It has no more rows than before; the answer is how many. code is lent for the words, which
+// are for a table with its marks.
 fn map_fused(
     ws: &mut [u32],
     row: &mut [u32],
@@ -106,14 +110,15 @@ fn map_fused(
     ops: &[u32],
     code: &mut [u64],
 ) -> usize
-    requires { ⌜ (2 ≤ w) × (w ≤ 4096) × (p ≤ 1024) × (length (now row) ≡ w) × (length (now ops) ≤ length (now code)) ⌝ }
+    requires { ⌜ (2 ≤ w) × (w ≤ 4096) × (p ≤ 1024) × (length (now row) ≡ w) × (2 * length (now ops) ≤ length (now code)) ⌝ }
     requires { ⌜ (a + p * w ≤ to) × (to + p * w ≤ length (now ws)) ⌝ }
     requires { ⌜ Rows w p n (part a (p * w) (now ws)) × Apart old made (inWords carry p) (length (now vals)) ⌝ }
     requires { ⌜ (part to (p * w) (now ws) ≡ zeros (p * w)) × (p ≤ length (now index)) × Kept carry p 0 (valueArea carry p made (now vals)) ⌝ }
     ensures { λ r. ⌜ (r ≤ p) × Finished carry w p a (batchedAll carry w p a old n (commandsOf (now (ops .entry))) (now (vals .entry)) (now (ws .entry))) r (now (ws .entry)) (now (ws .entry)) (now (ws .exit)) (valueArea carry p made (now (vals .exit))) ⌝ }
     ensures { λ _. ⌜ OnlyArea carry p made (now (vals .entry)) (now (vals .exit)) ⌝ }
 {
-    let m = fusing::fuse(code, ops);
+    let marks = marks::table_marks(ws, w, p, a, n);
+    let m = fusing::fuse(code, ops, marks);
     let r = map_all(
         ws,
         row,
@@ -156,7 +161,7 @@ pub fn map_table(
     ensures { λ r. ⌜ (r ≤ p) × Finished carry w p a (batchedAll carry w p a old n (commandsOf (now (ops .entry))) (now (vals .entry)) (now (ws .entry))) r (now (ws .entry)) (now (ws .entry)) (now (ws .exit)) (valueArea carry p made (now (vals .exit))) ⌝ }
     ensures { λ _. ⌜ OnlyArea carry p made (now (vals .entry)) (now (vals .exit)) ⌝ }
 {
-    let mut code = [0u64; batches::BATCH_LIMIT];
+    let mut code = [0u64; CODE_LIMIT];
     map_fused(
         ws,
         row,

@@ -1,6 +1,6 @@
 -- What each command makes of a stack, as the definition's operations say it. Assumes nothing.
-use mathlib.Core.Path.{_≡_, refl, ap, _∙_, subst}
-use mathlib.Core.List.{List, [], _∷_}
+use mathlib.Core.Path.{_≡_, refl, sym, ap, _∙_, subst}
+use mathlib.Core.List.{List, [], _∷_, map}
 use Prim.Native.Nat.{ℕ, _+_, _≤_, _<_}
 use native.Mathlib.Omega.{arith}
 use lib.ListN.{length, length-map}
@@ -11,11 +11,11 @@ use Rattle.expression.specs.declared.Command.the-variants.{Atom, Rule, Union, R
 use Rattle.expression.specs.declared.Kind.{Kind}
 use Rattle.expression.specs.Commands.{Suits}
 use Rattle.expression.specs.Effects.{effect}
-use Rattle.semantics.specs.Expressions.{act, uniteNewest, changeNewest}
+use Rattle.semantics.specs.Expressions.{link, act, uniteNewest, changeNewest}
 use Rattle.semantics.specs.AnswerSets.{Assumptions}
 use Rattle.tables.specs.Algebras.{tables}
 use Rattle.tables.specs.Definitions.{pairs, flat, mapPair}
-use Rattle.batches.specs.Batches.{Joins, stepTriple, step, steps, cleaned, batchPair}
+use Rattle.batches.specs.Batches.{Joins, stepTriple, step, reversed, steps, cleaned, batchPair}
 use Rattle.values.specs.Values.{valued}
 use Rattle.entries.specs.declared.Carry.{Carry}
 use Rattle.entries.specs.Carries.{Entry, entryAlgebra}
@@ -25,6 +25,8 @@ use Rattle.leaves.specs.declared.Tables.{Tables}
 use Rattle.leaves.specs.declared.Tables.the-variants.{Plain, Pairs}
 use Rattle.leaves.specs.Leaves.{algebraOf, tableAlgebra, atomAt, leafEntries}
 use Rattle.leaf_tables.proofs.Leaves.{atom-operation, rule-operation}
+use Rattle.maps.proofs.Mapping.{by}
+use Rattle.maps.proofs.Composing.{half, link-halves}
 use Rattle.workspace.specs.Workspace.{pairsOf, Acted}
 use Rattle.workspace.proofs.Faults.{no-fault}
 use Rattle.operands.specs.Operands.{Loaded, Acts, unitedTable}
@@ -64,14 +66,20 @@ union-is Plain carry o x y = refl
 union-is Pairs carry o x y = refl
 
 relabel-is : (kind : Tables) (carry : Carry) (o : Assumptions) (i j : ℕ) (x : List Entry) → mappedTable carry (Relabel i j) x ≡ tables (tableAlgebra kind carry) o .relabelOp i j x
-unfolding tables tableOfAll entryAlgebra tableAlgebra algebraOf valued pairs flat batchPair cleaned steps step stepTriple mapPair
+unfolding tables tableOfAll entryAlgebra tableAlgebra algebraOf valued pairs flat batchPair cleaned steps reversed step stepTriple mapPair
 relabel-is Plain carry o i j x = refl
 relabel-is Pairs carry o i j x = refl
 
-connect-is : (kind : Tables) (carry : Carry) (o : Assumptions) (k : Kind) (i j : ℕ) (x : List Entry) → mappedTable carry (Connect k i j) x ≡ tables (tableAlgebra kind carry) o .connectOp k i j x
-unfolding tables tableOfAll entryAlgebra tableAlgebra algebraOf valued pairs flat batchPair cleaned steps step stepTriple mapPair
-connect-is Plain carry o k i j x = refl
-connect-is Pairs carry o k i j x = refl
+half-is : (kind : Tables) (carry : Carry) (o : Assumptions) (k : Kind) (i j : ℕ) (x : List Entry) → tableOfAll carry (map (by (half k i j)) x) ≡ tables (tableAlgebra kind carry) o .connectOp k i j x
+unfolding tables tableOfAll entryAlgebra tableAlgebra algebraOf valued pairs flat cleaned step stepTriple mapPair
+half-is Plain carry o k i j x = refl
+half-is Pairs carry o k i j x = refl
+
+link-is : (kind : Tables) (carry : Carry) (o : Assumptions) (k : Kind) (i j : ℕ) (x : List Entry) → mappedTable carry (Connect k i j) x ≡ link (tables (tableAlgebra kind carry) o) k i j x
+link-is kind carry o k i j x =
+    sym (link-halves carry k i j x)
+    ∙ half-is kind carry o k j i (tableOfAll carry (map (by (half k i j)) x))
+    ∙ ap (tables (tableAlgebra kind carry) o .connectOp k j i) (half-is kind carry o k i j x)
 
 module _ {Y : Type 0} where
   unite-by : {f g : Y → Y → Y} → ((x y : Y) → f x y ≡ g x y) → (ys : List Y) → uniteNewest f ys ≡ uniteNewest g ys
@@ -96,7 +104,7 @@ module _ (kind : Tables) (carry : Carry) (o : Assumptions) (a : ℕ) where
 
   pub connect-acts : (k : Kind) (i j : ℕ) {c : Command} → c ≡ Connect k i j → (ts : List (List Entry)) → changeNewest (mappedTable carry c) ts ≡ act (tables (tableAlgebra kind carry) o) a c ts
   unfolding act
-  connect-acts k i j e ts = rw e (change-by (connect-is kind carry o k i j) ts)
+  connect-acts k i j e ts = rw e (change-by (link-is kind carry o k i j) ts)
 
   pub name-acts : (at : ℕ) {c : Command} → c ≡ Name at → (ts : List (List Entry)) → ts ≡ act (tables (tableAlgebra kind carry) o) a c ts
   unfolding act

@@ -154,8 +154,13 @@ fn relabel(p: Policy, i: u64, j: u64) -> Policy {
     next
 }
 
-// 01: link.
+// 01: link, which has no direction (02, Item 11). The first half changes no label and no operand, so the second is judged on the operand as it was.
 fn connect(p: Policy, byte: u8, i: u64, j: u64) -> Policy {
+    put_atoms(put_atoms(p, byte, i, j), byte, j, i)
+}
+
+// The atoms of label i put into the rules of label j.
+fn put_atoms(p: Policy, byte: u8, i: u64, j: u64) -> Policy {
     let atoms = labelled(p.atoms, p.depth, i);
     let rules = labelled(p.rules, p.depth, j);
     let mut next = p;

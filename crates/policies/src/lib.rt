@@ -1,5 +1,5 @@
-// What the commands of a sheet build (01, "The sheet"; 02, Item 9), from the documents alone: what the oracle enumerates. Proved to stay within bounds
-// and to end; right as far as it is tried.
+// What the commands of a sheet build (01, "The sheet"; 02, Items 9 and 11), from the documents alone: what the oracle enumerates. Proved to stay within
+// bounds and to end; right as far as it is tried.
 pub mod building;
 pub mod sets;
 

@@ -248,5 +248,5 @@ module _ (K : ℕ) where
       act-formed n (Relabel i j) [] s h e = h
       act-formed n (Relabel i j) (t ∷ us) s h e = (shaped-kept _ (relabel-shaped i j t (s .1) (kept-shaped t (h .0))) e, h .1)
       act-formed n (Connect k i j) [] s h e = h
-      act-formed n (Connect k i j) (t ∷ us) s h e = (shaped-kept _ (connect-shaped k i j t (kept-shaped t (h .0))) e, h .1)
+      act-formed n (Connect k i j) (t ∷ us) s h e = (shaped-kept _ (connect-shaped k j i _ (connect-shaped k i j t (kept-shaped t (h .0)))) e, h .1)
       act-formed n (Name at) us s h e = h

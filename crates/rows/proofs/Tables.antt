@@ -14,7 +14,8 @@ use Rattle.tables.specs.Definitions.{Pair, ownTriple, subsets}
 use Rattle.candidates.specs.Candidates.{pairOf, Readable}
 use Rattle.rows.specs.Parts.{part, put, zeros}
 use Rattle.rows.specs.Rows.{rowOf, Fit, tableOf, rowsIn, IsRow, Rows, slot}
-use Rattle.rows.proofs.Single.{length-row, pair-row, zeros-row, row-none}
+use Rattle.rows.proofs.Parts.{part-part}
+use Rattle.rows.proofs.Single.{length-row, pair-row, zeros-row, row-none, row-readable}
 
 pub row-within : (i n w : ℕ) → i < n → i * w + w ≤ n * w
 row-within i n w l = rw (← suc-mul i w) (mul-le-mul-right w l)
@@ -168,3 +169,16 @@ module _ (w p i : ℕ) (xs : List Pair) (area : List ℕ) (f : All (Fit w) xs) (
       ap (λ (a : List ℕ). put (j * w) w a (zeros w)) e
       ∙ table-less w p (take i xs) j (all-take (Fit w) i xs f) (taken ∙ sym q) (omega arith)
       ∙ ap (tableOf w p) (take-take j i xs (omega arith))
+
+-- ---- the rows of an area that lies among other words
+
+module _ (w p b n : ℕ) (ws : List ℕ) (within : b + p * w ≤ length ws) (t : Rows w p n (part b (p * w) ws)) (j : ℕ) (l : j < n) where
+  pub slot-is : slot w j (part b (p * w) ws) ≡ part (b + j * w) w ws
+  slot-is = let z = row-within j p w (omega (arith, t .room)) in part-part b (p * w) (j * w) w ws (omega arith) within
+
+  pub readable-slot : Readable (part (b + j * w) w ws)
+  readable-slot =
+      let xs : List Pair = rowsIn w n (part b (p * w) ws) in
+      let k = length-rowsIn w n (part b (p * w) ws) in
+      let e = sym (slot-at w p xs j (t .fit) (omega (arith, k, t .room)) (omega (arith, k))) ∙ ap (slot w j) (sym (t .words)) ∙ slot-is in
+      subst Readable e (row-readable w (getD xs j []) (all-get (Fit w) [] xs j (t .fit) (omega (arith, k))))

@@ -11,7 +11,7 @@ use Rattle.lists.specs.Lists.{All, some, every}
 use Rattle.lists.proofs.Members.{some-of, some-is, some-append, all-at, all-of, all-map}
 use Rattle.expression.specs.declared.Kind.{Kind}
 use Rattle.expression.specs.declared.Kind.the-variants.{Head, Positive, Negative}
-use Rattle.semantics.specs.Expressions.{Expr, connect}
+use Rattle.semantics.specs.Expressions.{Expr, connect, link, trees}
 use Rattle.semantics.specs.Programs.{Rule, atoms, labelled, extend, connectRule, rules, numbers, externals}
 use Rattle.semantics.specs.AnswerSets.{Interpretation, Model, AnswerSet, satisfies, strip, reduct}
 
@@ -144,9 +144,29 @@ module _ (k : Kind) (i j : ℕ) where
           λ m. record { model = h ∙ m .model; minimal = λ q s. alike-reduct (connectRule k j (labelled i (atoms e))) p q (rules e) alike ∙ m .minimal q s },
         )
 
-  -- given twice
-  pub model-twice : (e : Expr) (p : Interpretation) → Model (connect k i j (connect k i j e)) p ↔ Model (connect k i j e) p
-  model-twice e p = model-again (connect k i j e) (linked-new e) p
+-- a link given twice (02, Item 11: both ways)
+module _ (k : Kind) (i j : ℕ) (e : Expr) where
+  abbrev once : Expr
+  once = link trees k i j e
 
-  pub answerSet-twice : (e : Expr) (p : Interpretation) → AnswerSet (connect k i j (connect k i j e)) p ↔ AnswerSet (connect k i j e) p
-  answerSet-twice e p = answerSet-again (connect k i j e) (linked-new e) p
+  forth : Linked k i j once
+  unfolding trees
+  forth = linked-more k i j k j i (connect k i j e) (linked-new k i j e)
+
+  back : Linked k j i (connect k i j once)
+  unfolding trees
+  back = linked-more k j i k i j once (linked-new k j i (connect k i j e))
+
+  pub model-twice : (p : Interpretation) → Model (link trees k i j once) p ↔ Model once p
+  unfolding trees
+  model-twice p =
+      let a = model-again k j i (connect k i j once) back p in
+      let b = model-again k i j once forth p in
+      (λ m. b .0 (a .0 m), λ m. a .1 (b .1 m))
+
+  pub answerSet-twice : (p : Interpretation) → AnswerSet (link trees k i j once) p ↔ AnswerSet once p
+  unfolding trees
+  answerSet-twice p =
+      let a = answerSet-again k j i (connect k i j once) back p in
+      let b = answerSet-again k i j once forth p in
+      (λ m. b .0 (a .0 m), λ m. a .1 (b .1 m))

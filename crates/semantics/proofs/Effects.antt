@@ -10,7 +10,7 @@ use Rattle.expression.specs.declared.Effect.{Effect}
 use Rattle.expression.specs.declared.Effect.the-variants.{Push, Unite, Change, Pass}
 use Rattle.expression.specs.Effects.{effect, operandsBy, depthBy}
 use Rattle.expression.specs.Reading.{depthAfter}
-use Rattle.semantics.specs.Expressions.{Operations, uniteNewest, changeNewest, act}
+use Rattle.semantics.specs.Expressions.{Operations, uniteNewest, changeNewest, link, act}
 
 module _ {Y : Type 0} where
   -- what f makes of a stack
@@ -26,7 +26,7 @@ module _ {Y : Type 0} where
   act-does B n (Rule g) = (B .ruleOp g, λ ys. refl)
   act-does B n Union = (B .unionOp, λ ys. refl)
   act-does B n (Relabel i j) = (B .relabelOp i j, λ ys. refl)
-  act-does B n (Connect k i j) = (B .connectOp k i j, λ ys. refl)
+  act-does B n (Connect k i j) = (link B k i j, λ ys. refl)
   act-does B n (Name at) = λ ys. refl
 
   -- ---- how deep the stack is then

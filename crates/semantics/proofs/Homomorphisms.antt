@@ -6,7 +6,7 @@ use Rattle.expression.specs.declared.Kind.{Kind}
 use Rattle.expression.specs.declared.NewAtom.{NewAtom}
 use Rattle.expression.specs.declared.Command.{Command}
 use Rattle.expression.specs.declared.Command.the-variants.{Atom, Rule, Union, Relabel, Connect, Name}
-use Rattle.semantics.specs.Expressions.{Expr, atom, rule, union, relabel, connect, Operations, fold, uniteNewest, changeNewest, act, trees}
+use Rattle.semantics.specs.Expressions.{Expr, atom, rule, union, relabel, connect, Operations, fold, uniteNewest, changeNewest, link, act, trees}
 
 pub record Homomorphism {Y Z : Type 0} (B : Operations Y) (C : Operations Z) (h : Y → Z) : Type 0 where
   pub atomOp : (c : ℕ) (a : NewAtom) → h (B .atomOp c a) ≡ C .atomOp c a
@@ -24,6 +24,9 @@ module _ {Y Z : Type 0} {B : Operations Y} {C : Operations Z} {h : Y → Z} (H :
   fold-map (relabel i j e) = H .relabelOp i j (fold B e) ∙ ap (C .relabelOp i j) (fold-map e)
   fold-map (connect k i j e) = H .connectOp k i j (fold B e) ∙ ap (C .connectOp k i j) (fold-map e)
 
+  pub link-map : (k : Kind) (i j : ℕ) (y : Y) → h (link B k i j y) ≡ link C k i j (h y)
+  link-map k i j y = H .connectOp k j i (B .connectOp k i j y) ∙ ap (C .connectOp k j i) (H .connectOp k i j y)
+
   -- the front of a stack changes, the rest stays
   pub act-map : (n : ℕ) (c : Command) (ys : List Y) → map h (act B n c ys) ≡ act C n c (map h ys)
   unfolding act uniteNewest changeNewest
@@ -35,7 +38,7 @@ module _ {Y Z : Type 0} {B : Operations Y} {C : Operations Z} {h : Y → Z} (H :
   act-map n (Relabel i j) [] = refl
   act-map n (Relabel i j) (y ∷ ys) = ap {B = List Z} (λ z. z ∷ map h ys) (H .relabelOp i j y)
   act-map n (Connect k i j) [] = refl
-  act-map n (Connect k i j) (y ∷ ys) = ap {B = List Z} (λ z. z ∷ map h ys) (H .connectOp k i j y)
+  act-map n (Connect k i j) (y ∷ ys) = ap {B = List Z} (λ z. z ∷ map h ys) (link-map k i j y)
   act-map n (Name at) ys = refl
 
 -- folding carries the making of trees

@@ -5,3 +5,4 @@ pub mod Stacks
 pub mod Readings
 pub mod Masks
 pub mod Again
+pub mod Links

@@ -38,7 +38,7 @@ unfoldable pub Chain : List Expr → ℕ → Type 0
 Chain [] n = n ≡ 0
 Chain (e ∷ es) n = (lo : ℕ) × (len : ℕ) × (numbers e ≡ run lo len) × (lo + len ≡ n) × Distinct e × Chain es lo
 
-fits-act : (K n : ℕ) (d : Command) (es : List Expr) → Suits K d → All (Fits K) es → All (Fits K) (act trees n d es)
+pub fits-act : (K n : ℕ) (d : Command) (es : List Expr) → Suits K d → All (Fits K) es → All (Fits K) (act trees n d es)
 unfolding act trees uniteNewest changeNewest Suits Fits
 fits-act K n (Atom g) es h k = (h, k)
 fits-act K n (Rule g) es h k = (h, k)
@@ -48,7 +48,7 @@ fits-act K n Union (b ∷ a ∷ es) h k = ((k .1 .0, k .0), k .1 .1)
 fits-act K n (Relabel i j) [] h k = k
 fits-act K n (Relabel i j) (e ∷ es) h k = ((h .0, h .1, k .0), k .1)
 fits-act K n (Connect l i j) [] h k = k
-fits-act K n (Connect l i j) (e ∷ es) h k = ((h .0, h .1, k .0), k .1)
+fits-act K n (Connect l i j) (e ∷ es) h k = ((h .1, h .0, (h .0, h .1, k .0)), k .1)
 fits-act K n (Name at) es h k = k
 
 -- two runs on end are one, and apart
@@ -63,7 +63,7 @@ chain-union a b es n (lo, len, eb, l, db, (lo′, len′, ea, l′, da, rest)) =
   rest,
 )
 
-chain-act : (n : ℕ) (d : Command) (es : List Expr) → Chain es n → Chain (act trees n d es) (n + newAtoms d)
+pub chain-act : (n : ℕ) (d : Command) (es : List Expr) → Chain es n → Chain (act trees n d es) (n + newAtoms d)
 unfolding act trees uniteNewest changeNewest effect Chain numbers run Distinct
 chain-act n (Atom g) es k = (n, 1, refl, refl, tt, k)
 chain-act n (Rule g) es k = (n, 0, refl, refl, tt, k)

@@ -7,7 +7,7 @@ use Rattle.expression.specs.declared.Command.{Command}
 use Rattle.expression.specs.declared.Command.the-variants.{Atom, Rule, Union, Relabel, Connect, Name}
 use Rattle.expression.specs.Reading.{newAtoms}
 
--- 01: a part. An atom with its number, label and role; a rule with its label; two parts joined; a label moved; atoms of one label linked to rules of another
+-- 01: a part. An atom with its number, label and role; a rule with its label; two parts joined; a label moved; atoms of one label put into rules of another
 pub data Expr : Type 0 where
   atom : ℕ → NewAtom → Expr
   rule : ℕ → Expr
@@ -43,13 +43,17 @@ module _ {Y : Type 0} where
   changeNewest f [] = []
   changeNewest f (y ∷ ys) = f y ∷ ys
 
+  -- 02, Item 11: a link has no direction: atoms of label i are put into rules of label j, then atoms of label j into rules of label i
+  abbrev pub link : Operations Y → Kind → ℕ → ℕ → Y → Y
+  link B k i j y = B .connectOp k j i (B .connectOp k i j y)
+
   -- what they make of a command on a stack, the newest first, where n is the number of the next atom
   unfoldable pub act : Operations Y → ℕ → Command → List Y → List Y
   act B n (Atom a) ys = B .atomOp n a ∷ ys
   act B n (Rule g) ys = B .ruleOp g ∷ ys
   act B n Union ys = uniteNewest (B .unionOp) ys
   act B n (Relabel i j) ys = changeNewest (B .relabelOp i j) ys
-  act B n (Connect k i j) ys = changeNewest (B .connectOp k i j) ys
+  act B n (Connect k i j) ys = changeNewest (link B k i j) ys
   act B n (Name at) ys = ys
 
   unfoldable pub actAll : Operations Y → ℕ → List Command → List Y → List Y

@@ -49,6 +49,11 @@ extend Negative cs r = record { label = r .label; head = r .head; positive = r .
 unfoldable pub connectRule : Kind → ℕ → List ℕ → Rule → Rule
 connectRule k j cs r = cond (eqb (r .label) j) (extend k cs r) r
 
+-- 02, Item 11: what a link makes of a rule, where cs are the atoms of the part linked, as it was: a rule of label j gets those of label i, a rule of label i
+-- those of label j; by `semantics/proofs/Links.antt` this is what `rules` gives for the two connects that a link is
+unfoldable pub linkRule : Kind → ℕ → ℕ → List Atom → Rule → Rule
+linkRule k i j cs r = cond (eqb (r .label) j) (extend k (labelled i cs) r) (cond (eqb (r .label) i) (extend k (labelled j cs) r) r)
+
 unfoldable pub rules : Expr → List Rule
 rules (atom c g) = []
 rules (rule g) = record { label = g; head = []; positive = []; negative = [] } ∷ []

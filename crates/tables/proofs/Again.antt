@@ -1,22 +1,22 @@
--- A link given again changes no table (01, "The sheet"): at once, whatever the labels are, and with other links between, which may be given in any order.
+-- A link given again changes no table (01, "The sheet"), with other links between or none; its two halves commute (02, Item 11), as any two connects do.
 -- Assumes nothing.
 use mathlib.Core.Path.{_≡_, refl, sym, ap, ap₂, _∙_}
-use mathlib.Core.Bool.{Bool, true, false, cond, not, _&&_, and-true, and-false}
+use mathlib.Core.Bool.{Bool, true, false, cond, not, _&&_, and-true}
 use mathlib.Core.List.{List, [], _∷_, map}
 use Prim.Native.Nat.{ℕ, _+_, _*_, _-_, _^_, _<_}
 use native.Mathlib.Omega.{arith}
 use lib.Dec.{eqb}
-use borrow.Author.Tests.{eq-eqb, ne-eqb}
+use borrow.Author.Tests.{ne-eqb}
 use Rattle.lists.specs.declared.Order.{Order}
 use Rattle.lists.specs.Lists.{All}
 use Rattle.lists.specs.Sorted.{compareNumbers, second, canon, setOf}
 use Rattle.lists.proofs.Comparisons.{Lawful, numbers-lawful}
 use Rattle.lists.proofs.Canon.{canon-map}
 use Rattle.labels.specs.Sets.{has, without}
-use Rattle.labels.proofs.Sets.{has-without, set-ext}
+use Rattle.labels.proofs.Sets.{has-without, has-gone, set-ext}
 use Rattle.expression.specs.declared.Kind.{Kind}
 use Rattle.expression.specs.declared.Kind.the-variants.{Head, Positive, Negative}
-use Rattle.semantics.specs.Expressions.{Expr, connect, fold}
+use Rattle.semantics.specs.Expressions.{Expr, fold, link, trees}
 use Rattle.semantics.specs.AnswerSets.{Assumptions}
 use Rattle.tables.specs.Algebras.{Algebra, tables, table}
 use Rattle.tables.specs.Triples.{settles, connectTriple}
@@ -28,14 +28,6 @@ use Rattle.tables.proofs.Answers.{triples-lawful, pairs-lawful}
 map-again : {X : Type 0} (f g : X → X) → ((x : X) → g (f x) ≡ f x) → (xs : List X) → map g (map f xs) ≡ map f xs
 map-again f g h [] = refl
 map-again {X} f g h (x ∷ xs) = ap₂ {C = List X} (λ y ys. y ∷ ys) (h x) (map-again f g h xs)
-
-module _ (k : Kind) (i j : ℕ) where
-  table-again : {X : Type 0} (A : Algebra X) → Lawful (A .order) (A .merge) → ((x : X) → A .connected k i j (A .connected k i j x) ≡ A .connected k i j x)
-      → (o : Assumptions) (e : Expr) → table A o (connect k i j (connect k i j e)) ≡ table A o (connect k i j e)
-  unfolding table tables fold
-  table-again A L h o e =
-      canon-map L L (A .connected k i j) (map (A .connected k i j) (table A o e))
-      ∙ ap (canon (A .order) (A .merge)) (map-again (A .connected k i j) (A .connected k i j) h (table A o e))
 
 -- two maps, in order before and after, by what they do to each element
 canon-maps : {X : Type 0} {cmp : X → X → Order} {merge : X → X → X} → Lawful cmp merge → (f g f′ g′ : X → X) → ((x : X) → g (f x) ≡ g′ (f′ x))
@@ -50,10 +42,7 @@ canon-maps {X} {cmp} {merge} L f g f′ g′ h xs = canon-map L L g (map f xs) �
 
 without-again : (m a : ℕ) → without m (without m a) ≡ without m a
 unfolding without
-without-again m a = ap (λ b. cond b (without m a - 2 ^ m) (without m a)) gone
-  where
-    gone : has m (without m a) ≡ false
-    gone = has-without m m a ∙ ap (λ b. has m a && not b) (eq-eqb m m refl) ∙ and-false (has m a)
+without-again m a = ap (λ b. cond b (without m a - 2 ^ m) (without m a)) (has-gone m a)
 
 -- what is settled has lost the mark m, and what is not is as it was
 cond-again : (m r : ℕ) (b c : Bool) → (b ≡ false → c ≡ false) → cond c (without m (cond b (without m r) r)) (cond b (without m r) r) ≡ cond b (without m r) r
@@ -84,13 +73,7 @@ module _ (K : ℕ) (k : Kind) (i j : ℕ) where
       q : ℕ
       q = ownTriple x
 
-  pub pairs-again : (o : Assumptions) (e : Expr) → table (pairs K) o (connect k i j (connect k i j e)) ≡ table (pairs K) o (connect k i j e)
-  pairs-again = table-again k i j (pairs K) (pairs-lawful K) pair-again
-
-  pub triples-again : (o : Assumptions) (e : Expr) → table (triples K) o (connect k i j (connect k i j e)) ≡ table (triples K) o (connect k i j e)
-  triples-again = table-again k i j (triples K) (triples-lawful K) (λ q. unfold triples in (triple-again q q))
-
--- ---- two links in any order
+-- ---- two connects in any order
 
 without-swap : (m n a : ℕ) → without m (without n a) ≡ without n (without m a)
 without-swap m n a = set-ext (without m (without n a)) (without n (without m a)) (λ x.
@@ -146,34 +129,106 @@ module _ (K : ℕ) where
         q : ℕ
         q = ownTriple x
 
--- ---- with other links between
+-- ---- links
+
+-- what connects do to entries: given again nothing, and two of them, of labels below K, the same in either order
+record Commuting {X : Type 0} (K : ℕ) (A : Algebra X) : Type 0 where
+  lawful : Lawful (A .order) (A .merge)
+  again : (k : Kind) (i j : ℕ) (x : X) → A .connected k i j (A .connected k i j x) ≡ A .connected k i j x
+  swap : (k : Kind) (i j : ℕ) → i < K → (l : Kind) (i′ j′ : ℕ) → i′ < K → (x : X) → A .connected k i j (A .connected l i′ j′ x) ≡ A .connected l i′ j′ (A .connected k i j x)
+
+pairs-commute : (K : ℕ) → Commuting K (pairs K)
+pairs-commute K = record { lawful = pairs-lawful K; again = pair-again K; swap = pair-swap K }
+
+triples-commute : (K : ℕ) → Commuting K (triples K)
+unfolding triples
+triples-commute K = record { lawful = triples-lawful K; again = λ k i j q. triple-again K k i j q q; swap = λ k i j low l i′ j′ low′ q. triple-swap K k i j low l i′ j′ low′ q q }
 
 pub record Link : Type 0 where
   pub kind : Kind
   pub from : ℕ
   pub to : ℕ
 
--- links on an expression, the last one first
+abbrev pub Below : ℕ → Link → Type 0
+Below K l = (l .from < K) × (l .to < K)
+
+-- a link on an expression, and several, the last one first
+abbrev pub linked : Link → Expr → Expr
+linked l e = link trees (l .kind) (l .from) (l .to) e
+
 abbrev pub withLinks : List Link → Expr → Expr
 withLinks [] e = e
-withLinks (l ∷ ls) e = connect (l .kind) (l .from) (l .to) (withLinks ls e)
+withLinks (l ∷ ls) e = linked l (withLinks ls e)
 
-module _ {X : Type 0} (A : Algebra X) (L : Lawful (A .order) (A .merge)) (K : ℕ) (k : Kind) (i j : ℕ) (o : Assumptions) (e : Expr) where
-  table-later : ((x : X) → A .connected k i j (A .connected k i j x) ≡ A .connected k i j x)
-      → ((l : Kind) (i′ j′ : ℕ) → i′ < K → (x : X) → A .connected k i j (A .connected l i′ j′ x) ≡ A .connected l i′ j′ (A .connected k i j x))
-      → (ls : List Link) → All (λ l. l .from < K) ls → table A o (connect k i j (withLinks ls (connect k i j e))) ≡ table A o (withLinks ls (connect k i j e))
-  unfolding table tables fold
-  table-later again swap [] h = table-again k i j A L again o e
-  table-later again swap (l ∷ ls) h =
-      canon-maps L (A .connected (l .kind) (l .from) (l .to)) (A .connected k i j) (A .connected k i j) (A .connected (l .kind) (l .from) (l .to))
-      (swap (l .kind) (l .from) (l .to) (h .0)) (table A o (withLinks ls (connect k i j e)))
-      ∙ ap (λ t. canon (A .order) (A .merge) (map (A .connected (l .kind) (l .from) (l .to)) t)) (table-later again swap ls (h .1))
+module _ {X : Type 0} {K : ℕ} {A : Algebra X} (C : Commuting K A) (o : Assumptions) where
+  -- what a link makes of an entry
+  abbrev both : Link → X → X
+  both l x = A .connected (l .kind) (l .to) (l .from) (A .connected (l .kind) (l .from) (l .to) x)
 
-module _ (K : ℕ) (k : Kind) (i j : ℕ) (low : i < K) (o : Assumptions) (e : Expr) (ls : List Link) (lows : All (λ l. l .from < K) ls) where
-  pub pairs-later : table (pairs K) o (connect k i j (withLinks ls (connect k i j e))) ≡ table (pairs K) o (withLinks ls (connect k i j e))
-  pairs-later = table-later (pairs K) (pairs-lawful K) K k i j o e (pair-again K k i j) (λ l i′ j′ low′. pair-swap K k i j low l i′ j′ low′) ls lows
+  abbrev tabled : (X → X) → List X → List X
+  tabled f t = canon (A .order) (A .merge) (map f t)
 
-  pub triples-later : table (triples K) o (connect k i j (withLinks ls (connect k i j e))) ≡ table (triples K) o (withLinks ls (connect k i j e))
-  triples-later =
-      table-later (triples K) (triples-lawful K) K k i j o e (λ q. unfold triples in (triple-again K k i j q q))
-      (λ l i′ j′ low′ q. unfold triples in (triple-swap K k i j low l i′ j′ low′ q q)) ls lows
+  -- 02, Item 11: its halves commute
+  table-turned : (l : Link) → Below K l → (e : Expr) → table A o (linked l e) ≡ table A o (linked (record { kind = l .kind; from = l .to; to = l .from }) e)
+  unfolding table tables fold trees
+  table-turned l (a, b) e =
+      canon-maps (C .lawful) (A .connected (l .kind) (l .from) (l .to)) (A .connected (l .kind) (l .to) (l .from)) (A .connected (l .kind) (l .to) (l .from)) (A .connected (l .kind) (l .from) (l .to))
+      (C .swap (l .kind) (l .to) (l .from) b (l .kind) (l .from) (l .to) a) (table A o e)
+
+  table-linked : (l : Link) (e : Expr) → table A o (linked l e) ≡ tabled (both l) (table A o e)
+  unfolding table tables fold trees
+  table-linked l e =
+      canon-map (C .lawful) (C .lawful) (A .connected (l .kind) (l .to) (l .from)) (map (A .connected (l .kind) (l .from) (l .to)) (table A o e))
+      ∙ ap (canon (A .order) (A .merge)) (two (table A o e))
+    where
+      two : (t : List X) → map (A .connected (l .kind) (l .to) (l .from)) (map (A .connected (l .kind) (l .from) (l .to)) t) ≡ map (both l) t
+      two [] = refl
+      two (x ∷ t) = ap {B = List X} (λ ys. both l x ∷ ys) (two t)
+
+  both-again : (l : Link) → Below K l → (x : X) → both l (both l x) ≡ both l x
+  both-again l (a, b) x =
+      ap (A .connected (l .kind) (l .to) (l .from))
+      (C .swap (l .kind) (l .from) (l .to) a (l .kind) (l .to) (l .from) b (A .connected (l .kind) (l .from) (l .to) x)
+      ∙ ap (A .connected (l .kind) (l .to) (l .from)) (C .again (l .kind) (l .from) (l .to) x))
+      ∙ C .again (l .kind) (l .to) (l .from) (A .connected (l .kind) (l .from) (l .to) x)
+
+  -- one connect and a link
+  half-swap : (k : Kind) (i j : ℕ) → i < K → (l : Link) → Below K l → (x : X) → A .connected k i j (both l x) ≡ both l (A .connected k i j x)
+  half-swap k i j low l (a, b) x =
+      C .swap k i j low (l .kind) (l .to) (l .from) b (A .connected (l .kind) (l .from) (l .to) x)
+      ∙ ap (A .connected (l .kind) (l .to) (l .from)) (C .swap k i j low (l .kind) (l .from) (l .to) a x)
+
+  both-swap : (l m : Link) → Below K l → Below K m → (x : X) → both l (both m x) ≡ both m (both l x)
+  both-swap l m (a, b) h x =
+      ap (A .connected (l .kind) (l .to) (l .from)) (half-swap (l .kind) (l .from) (l .to) a m h x)
+      ∙ half-swap (l .kind) (l .to) (l .from) b m h (A .connected (l .kind) (l .from) (l .to) x)
+
+  -- a link given again, with others between
+  table-later : (l : Link) → Below K l → (e : Expr) (ms : List Link) → All (Below K) ms → table A o (linked l (withLinks ms (linked l e))) ≡ table A o (withLinks ms (linked l e))
+  table-later l low e [] h =
+      table-linked l (linked l e)
+      ∙ ap (tabled (both l)) (table-linked l e)
+      ∙ canon-map (C .lawful) (C .lawful) (both l) (map (both l) (table A o e))
+      ∙ ap (canon (A .order) (A .merge)) (map-again (both l) (both l) (both-again l low) (table A o e))
+      ∙ sym (table-linked l e)
+  table-later l low e (m ∷ ms) h =
+      table-linked l (linked m (withLinks ms (linked l e)))
+      ∙ ap (tabled (both l)) (table-linked m (withLinks ms (linked l e)))
+      ∙ canon-maps (C .lawful) (both m) (both l) (both l) (both m) (both-swap l m low (h .0)) (table A o (withLinks ms (linked l e)))
+      ∙ ap (tabled (both m)) (sym (table-linked l (withLinks ms (linked l e))) ∙ table-later l low e ms (h .1))
+      ∙ sym (table-linked m (withLinks ms (linked l e)))
+
+module _ (K : ℕ) (l : Link) (low : Below K l) (o : Assumptions) (e : Expr) where
+  -- 02, Item 11: a link has no direction
+  pub pairs-turned : table (pairs K) o (linked l e) ≡ table (pairs K) o (linked (record { kind = l .kind; from = l .to; to = l .from }) e)
+  pairs-turned = table-turned (pairs-commute K) o l low e
+
+  pub triples-turned : table (triples K) o (linked l e) ≡ table (triples K) o (linked (record { kind = l .kind; from = l .to; to = l .from }) e)
+  triples-turned = table-turned (triples-commute K) o l low e
+
+  -- given again it changes nothing
+  pub pairs-later : (ms : List Link) → All (Below K) ms → table (pairs K) o (linked l (withLinks ms (linked l e))) ≡ table (pairs K) o (withLinks ms (linked l e))
+  pairs-later = table-later (pairs-commute K) o l low e
+
+  pub triples-later : (ms : List Link) → All (Below K) ms → table (triples K) o (linked l (withLinks ms (linked l e))) ≡ table (triples K) o (withLinks ms (linked l e))
+  triples-later = table-later (triples-commute K) o l low e

@@ -1,6 +1,6 @@
-// The sheets to try of 01, the readings that its order of checks asks for, and sheets with granted copies (02, Item 9), by the solver that the engine is
-// tested against. The list is read from standard input; it says how a trial is written. Prints each trial that disagrees with what is listed, and how
-// many agree.
+// The sheets to try of 01, the readings that its order of checks asks for, and sheets with granted copies (02, Item 9) and with links either way (02,
+// Item 11), by the solver that the engine is tested against. The list is read from standard input; it says how a trial is written. Prints each trial that
+// disagrees with what is listed, and how many agree.
 ghost use mathlib.Core.Path.{_≡_};
 ghost use Prim.Native.Nat.{_+_, _/_, _<_, _≤_};
 ghost use lib.ListN.{length, take};

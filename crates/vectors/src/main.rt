@@ -1,6 +1,6 @@
-// The engine held against the oracle: the sheets to try of 01 that are not starred, sheets with too many bytes, atoms or rules, then pseudo-random
-// sheets, each by one of the four calls, and the name of every copy. Compared are the outcome, which plan is shown, every word of a report and every word
-// of workspace and buffer afterwards. Prints the first disagreement, if any, and how often each outcome was agreed on.
+// The engine held against the oracle: the sheets to try of 01 that are not starred, names, links, sheets with too many bytes, atoms or rules, then
+// pseudo-random sheets, each by one of the four calls, and the name of every copy. Compared are the outcome, which plan is shown, every word of a report
+// and every word of workspace and buffer afterwards. Prints the first disagreement, if any, and how often each outcome was agreed on.
 ghost use Prim.Native.Nat.{_≤_};
 use calls::grounded;
 use expression::Outcome;
@@ -14,6 +14,7 @@ use generator::room;
 use generator::sheet;
 use libc::STDOUT_FILENO;
 use oracle::Answer;
+use oracle::NO;
 use oracle::NOT_TRIED;
 use oracle::REFUSED;
 use oracle::YES;
@@ -238,6 +239,13 @@ fn listed(s: &[u8], pins_in: u64, pins_out: u64, number: u64, place: usize) -> u
 fn roomed(s: &[u8], room: u64, pins_in: u64, pins_out: u64, number: u64, place: usize) -> u64
     ensures { λ r. ⌜ r ≤ 1 ⌝ }
 {
+    told(s, room, pins_in, pins_out, answered(REFUSED, number, place))
+}
+
+// 1 where both answer so in a room.
+fn told(s: &[u8], room: u64, pins_in: u64, pins_out: u64, expected: Answer) -> u64
+    ensures { λ r. ⌜ r ≤ 1 ⌝ }
+{
     let q = Request {
         pair_limit: 32,
         subset_limit: 32,
@@ -250,10 +258,10 @@ fn roomed(s: &[u8], room: u64, pins_in: u64, pins_out: u64, number: u64, place: 
         buffer: 0,
     };
     let mut words = [0u32; 16512];
-    if !is_same(answer(s, q, &mut words), answered(REFUSED, number, place)) {
+    if !is_same(answer(s, q, &mut words), expected) {
         return 0;
     }
-    if try_request(s, q) != number {
+    if try_request(s, q) != agreed(expected, q) {
         return 0;
     }
     1
@@ -372,6 +380,29 @@ fn named(s: &[u8], copy: u64, kind: u64, value: u64) -> u64
         return 0;
     }
     1
+}
+
+// ---- links (02, Item 11)
+
+// 1 where both decide as listed.
+fn decided(s: &[u8], kind: u64, value: u64) -> u64
+    ensures { λ r. ⌜ r ≤ 1 ⌝ }
+{
+    told(s, ROOM as u64, 0, 0, answered(kind, value, 0))
+}
+
+// The rule in the first group named and the copy in the second: of each kind, and with a granted copy. Then a copy and a rule in both, either way round.
+fn try_links() {
+    let a = decided(b"\x12\x00\x11\x01\x21\x41\x00\x01", YES, 1);
+    let b = decided(b"\x12\x00\x11\x01\x21\x42\x00\x01", YES, 0);
+    let c = decided(b"\x12\x00\x11\x01\x21\x43\x00\x01", NO, 0);
+    let d = decided(b"\x12\x00\x13\x01\x21\x43\x00\x01", YES, 1);
+    let both = b"\x11\x00\x12\x00\x21\x11\x01\x21\x12\x01\x21\x41\x00\x01";
+    let turned = b"\x11\x00\x12\x00\x21\x11\x01\x21\x12\x01\x21\x41\x01\x00";
+    let e = decided(both, YES, 3);
+    let f = decided(turned, YES, 3);
+    print_number(a + b + c + d + e + f);
+    io::write_all(STDOUT_FILENO, b"of 6 links\n");
 }
 
 // ---- refusals that the random sheets are too small for
@@ -493,6 +524,7 @@ fn main() {
     try_clashes();
     try_rooms();
     try_names();
+    try_links();
     try_large();
     try_seeds(TRIALS, &mut counts);
     print_all(&counts);

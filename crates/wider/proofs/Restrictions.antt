@@ -34,10 +34,8 @@ module _ {X : Type 0} (K : ℕ) (none : X) where
   }
 
   module _ (A : Algebra X) where
-    change-restricted : (f : X → X) (i j : ℕ) → (i < K) × (j < K) → (ts : List (List X))
-        → changeNewest (λ t. canon (A .order) (A .merge) (map (λ x. cond (ltb i K) (cond (ltb j K) (f x) x) x) t)) ts ≡ changeNewest (λ t. canon (A .order) (A .merge) (map f t)) ts
-    change-restricted f i j (a, b) ts =
-        ap₂ (λ d e. changeNewest (λ t. canon (A .order) (A .merge) (map (λ x. cond d (cond e (f x) x) x) t)) ts) (lt-ltb i K a) (lt-ltb j K b)
+    abbrev tabled : (X → X) → List X → List X
+    tabled f t = canon (A .order) (A .merge) (map f t)
 
     -- a command whose labels are below K does the same
     pub act-restricted : (o : Assumptions) (n : ℕ) (c : Command) → Suits K c → (ts : List (List X)) → act (tables (restricted A) o) n c ts ≡ act (tables A o) n c ts
@@ -45,8 +43,9 @@ module _ {X : Type 0} (K : ℕ) (none : X) where
     act-restricted o n (Atom a) s ts = rw (lt-ltb (a .label) K s) refl
     act-restricted o n (Rule g) s ts = rw (lt-ltb g K s) refl
     act-restricted o n Union s ts = refl
-    act-restricted o n (Relabel i j) s ts = change-restricted (A .relabelled i j) i j s ts
-    act-restricted o n (Connect k i j) s ts = change-restricted (A .connected k i j) i j s ts
+    act-restricted o n (Relabel i j) (a, b) ts = ap₂ (λ d e. changeNewest (tabled (λ x. cond d (cond e (A .relabelled i j x) x) x)) ts) (lt-ltb i K a) (lt-ltb j K b)
+    act-restricted o n (Connect k i j) (a, b) ts =
+        ap₂ (λ d e. changeNewest (λ t. tabled (λ x. cond e (cond d (A .connected k j i x) x) x) (tabled (λ x. cond d (cond e (A .connected k i j x) x) x) t)) ts) (lt-ltb i K a) (lt-ltb j K b)
     act-restricted o n (Name at) s ts = refl
 
 -- h carries A to B where labels are below K

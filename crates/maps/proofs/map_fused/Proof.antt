@@ -21,7 +21,7 @@ use native.Mathlib.Omega.{arith}
 
 module _ (f : tie.After-fuse) where
   abbrev start : tie.Start
-  start = f .before .before .before .before .before .before .before .before
+  start = f .before .before .before .before .before .before .before .before .before .before
 
   -- the words of the values of an area
   abbrev values : ℕ → List ℕ
@@ -39,7 +39,7 @@ module _ (f : tie.After-fuse) where
 
   -- what they make is what the commands make
   same : cands ≡ map (batched (commandsOf (start .args .ops .now))) those
-  same = worded-is words (start .args .ops .now) (f .fuse .ensures .1) those
+  same = worded-is words (start .args .ops .now) _ (f .fuse .ensures .1) _ _ (f .before .before .table-marks .ensures)
 
   -- none of them is in yet
   begins : Making (start .args .carry) (start .args .w) (start .args .p) (start .args .to) cands (cands ++ []) 0 (start .args .ws .now) (start .args .ws .now) (start .args .index .now) (values (start .args .made))
@@ -59,6 +59,9 @@ module _ (u : tie.After-map-all) where
 
   all-in : Stepped (s .args .carry) (s .args .w) (s .args .p) (s .args .to) (cands f) [] (cands f) (u .map-all .result) (s .args .ws .now) (u .map-all .last .0) (u .map-all .last .1 .1 .0) (valueArea (s .args .carry) (s .args .p) (s .args .made) (u .map-all .last .1 .1 .1 .0))
   all-in = stepped (s .pre .0 .0) made
+
+table-marks-requires : tie.Need-table-marks-requires
+table-marks-requires c κs = let s = c .before .before .before .before .before .before .before in (s .pre .0 .1, s .pre .0 .2, omega (arith, s .pre .1 .0 .0, s .pre .1 .0 .1), s .pre .1 .1 .0 .0)
 
 fuse-requires : tie.Need-fuse-requires
 fuse-requires c κs = search needs
@@ -115,6 +118,7 @@ pub map-fused-spec : {M : Type 1} → statement M
 map-fused-spec =
     tie.close
     (tie.spec
+    table-marks-requires
     fuse-requires
     slice-reshare-prefix-map-all
     slice-aggregate-map-all
