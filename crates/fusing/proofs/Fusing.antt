@@ -4,11 +4,11 @@ use mathlib.Core.List.{List, [], _∷_, _++_, map}
 use Prim.Native.Nat.{ℕ, suc, _+_, _-_, _≤_, _<_}
 use native.Mathlib.Numerals.{add-one}
 use native.Mathlib.Omega.{arith}
-use lib.ListN.{length, take, drop, set, getD, drop-of-length-le, length-set}
-use lib.Seq.{drop-cons, take-suc, take-suc-set, getD-set-other}
+use lib.ListN.{length, take, set, getD, length-set}
+use lib.Seq.{take-suc, take-suc-set, getD-set-other}
 use Rattle.expression.specs.declared.Command.{Command}
 use Rattle.tables.specs.Definitions.{ownTriple, subsets}
-use Rattle.batches.specs.Batches.{commandOf, stepTriple, step, reversed, steps, wordTriple, wordStep, wordSteps}
+use Rattle.batches.specs.Batches.{stepTriple, step, wordTriple, wordStep, wordSteps}
 use Rattle.batches.proofs.Words.{map-same}
 
 -- ---- a word for a command
@@ -93,14 +93,3 @@ module _ (K : ℕ) (code : List ℕ) (m s : ℕ) (x : List ℕ) (l : 2 ≤ m) (k
       two-words (set code (m - 2) s) s (length-set code (m - 2) s) (take-suc-set code (m - 2) s i) (getD-set-other code (m - 2) (m - 1) s 0 (λ z. omega arith))
       ∙ twice-same e (wordSteps K (take (m - 2) code) x)
       ∙ sym (two-words code first refl (take-suc code (m - 2) 0 i) refl)
-
--- ---- the commands left
-
-pub next-command : (K : ℕ) (goal ops : List ℕ) (k : ℕ) → k < length ops → (y z : List ℕ) → steps K (map (commandOf K) (drop k ops)) y ≡ goal → z ≡ reversed K (commandOf K (getD ops k 0)) (step K (commandOf K (getD ops k 0)) y)
-    → steps K (map (commandOf K) (drop (k + 1) ops)) z ≡ goal
-unfolding steps
-next-command K goal ops k l y z h e = rw (e, add-one k) (rw (drop-cons ops k 0 l) at h)
-
-pub no-commands : (K : ℕ) (ops : List ℕ) (k : ℕ) → length ops ≤ k → (y goal : List ℕ) → steps K (map (commandOf K) (drop k ops)) y ≡ goal → y ≡ goal
-unfolding steps
-no-commands K ops k l y goal h = rw (drop-of-length-le ops {i = k} l) at h

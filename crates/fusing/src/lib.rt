@@ -22,7 +22,7 @@ ghost use Rattle.expression.specs.Commands.{Suits};
 ghost use Rattle.tables.specs.Triples.{settles};
 ghost use Rattle.marks.specs.Marks.{Marked};
 ghost use Rattle.batches.specs.Batches.{commandOf, commandsOf, stepTriple, step, reversed, steps, isMet, Fits, judgesFrom, judgeOf, wordTriple, wordSteps};
-ghost use Rattle.fusing.specs.Fusing.{marksAfter};
+ghost use Rattle.fusing.specs.Fusing.{marksAfter, halfOf, IsLink};
 
 // labels::LABELS at the width of a word.
 const LABELS: u32 = labels::LABELS as u32;
@@ -207,11 +207,14 @@ fn lighter(a: u64, b: u64) -> u64
     })
 }
 
-// The last but one of m words, lighter where it can be.
-fn lighten(code: &mut [u64], m: usize)
+// The last but one of m words, lighter where it can be: after a relabel, of the word w.
+fn lighten(code: &mut [u64], m: usize, w: u32)
     requires { ⌜ m ≤ length (now code) ⌝ }
     ensures { λ _. ⌜ ((x : List ℕ) → wordSteps labelCount (take m (now (code .exit))) x ≡ wordSteps labelCount (take m (now (code .entry))) x) ⌝ }
 {
+    if w / BASE / BASE != 1 {
+        return;
+    }
     if 2 <= m {
         let s = lighter(code[m - 2], code[m - 1]);
         if 0 < s {
@@ -220,24 +223,45 @@ fn lighten(code: &mut [u64], m: usize)
     }
 }
 
-// The other half of a link (02, Item 11) comes behind them, unless it is idle, as it mostly is.
-fn put_reverse(code: &mut [u64], m: usize, c: Command, marks: u32) -> usize
-    requires { ⌜ (m < length (now code)) × Suits labelCount c ⌝ }
-    ensures { λ r. ⌜ (r ≤ m + 1) × ((x : List ℕ) → Marked marks (wordSteps labelCount (take m (now (code .entry))) x) → wordSteps labelCount (take r (now (code .exit))) x ≡ reversed labelCount c (wordSteps labelCount (take m (now (code .entry))) x)) ⌝ }
+// The word of a command or, where back is not 0, of the other half of a link (02, Item 11).
+fn half_word(w: u32, back: usize) -> u32
+    ensures { λ v. ⌜ commandOf labelCount v ≡ halfOf back (commandOf labelCount w) ⌝ }
 {
+    if back == 0 {
+        return w;
+    }
+    let c = command_of(w as u64);
+    match c {
+        Command::Connect(k, i, j) => connect_word(k, j, i),
+        Command::Relabel(_, _) => w,
+        Command::Rule(_) => w,
+        Command::Atom(_) => w,
+        Command::Union => w,
+        Command::Name(_) => w,
+    }
+}
+
+// 1 if the other half of a link is to come, else 0: where it came already, and where it is idle, as it mostly is.
+fn goes_back(c: Command, back: usize, marks: u32) -> usize
+    requires { ⌜ Suits labelCount c ⌝ }
+    ensures { λ r. ⌜ (r ≤ 1) × (r ≡ 1 → (back ≡ 0) × IsLink c) × (r ≡ 0 → back ≡ 0 → (y : List ℕ) → Marked marks y → y ≡ reversed labelCount c y) ⌝ }
+{
+    if back != 0 {
+        return 0;
+    }
     match c {
         Command::Connect(k, i, j) => {
-            let back = Command::Connect(k, j, i);
-            if is_idle(back, marks) {
-                return m;
+            let other = Command::Connect(k, j, i);
+            if is_idle(other, marks) {
+                return 0;
             }
-            put_word(code, m, back, connect_word(k, j, i), marks)
+            1
         }
-        Command::Relabel(_, _) => m,
-        Command::Rule(_) => m,
-        Command::Atom(_) => m,
-        Command::Union => m,
-        Command::Name(_) => m,
+        Command::Relabel(_, _) => 0,
+        Command::Rule(_) => 0,
+        Command::Atom(_) => 0,
+        Command::Union => 0,
+        Command::Name(_) => 0,
     }
 }
 
@@ -271,15 +295,16 @@ pub fn fuse(code: &mut [u64], ops: &[u32], marks: u32) -> usize
 {
     let mut m = 0;
     let mut seen = marks;
+    let mut back = 0;
     let mut k = 0;
     while k < ops.len() {
-        let w = ops[k];
+        let w = half_word(ops[k], back);
         let c = command_in(w);
         m = put_word(code, m, c, w, seen);
-        lighten(code, m);
+        lighten(code, m, w);
         seen = marks_after(c, seen);
-        m = put_reverse(code, m, c, seen);
-        k += 1;
+        back = goes_back(c, back, seen);
+        k += 1 - back;
     }
     m
 }

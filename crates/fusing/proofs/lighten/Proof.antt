@@ -5,6 +5,9 @@ use borrow.Author.Needs.{needs}
 use Rattle.fusing.proofs.lighten.Statement.{statement}
 use Rattle.fusing.proofs.lighten.Tie as tie
 
+returns : tie.Need-returns
+returns c = search needs
+
 mul-lighter : tie.Need-mul-lighter
 mul-lighter c = search needs
 
@@ -32,23 +35,24 @@ slice-write-code c = search needs
 same-length : tie.Need-same-length
 same-length c = search needs
 
-returns : tie.Need-returns
-returns c =
+returns-2 : tie.Need-returns-2
+returns-2 c =
     let t = c .before in
     let k = t .before .before .before in
-    let s = k .before .before in
-    λ x. put-first labelCount (s .args .code .now) (s .args .m) _ x (k .if1 .taken) (s .pre) (t .lighter .ensures (c .if2 .taken))
-
-returns-2 : tie.Need-returns-2
-returns-2 c = search needs
+    let s = k .before .before .before in
+    λ x. put-first labelCount (s .args .code .now) (s .args .m) _ x (k .if2 .taken) (s .pre) (t .lighter .ensures (c .if3 .taken))
 
 returns-3 : tie.Need-returns-3
 returns-3 c = search needs
+
+returns-4 : tie.Need-returns-4
+returns-4 c = search needs
 
 pub lighten-spec : {M : Type 1} → statement M
 lighten-spec =
     tie.close
     (tie.spec
+    returns
     mul-lighter
     slice-read-lighter
     sub-lighter
@@ -58,6 +62,6 @@ lighten-spec =
     mul-code
     slice-write-code
     same-length
-    returns
     returns-2
-    returns-3)
+    returns-3
+    returns-4)
