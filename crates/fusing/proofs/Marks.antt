@@ -12,7 +12,7 @@ use lib.Seq.{drop-cons}
 use Rattle.lists.specs.Lists.{All}
 use Rattle.lists.proofs.Members.{and-both, or-either, not-true-false, all-map}
 use Rattle.labels.specs.Sets.{has, without, replace, Within}
-use Rattle.labels.proofs.Sets.{has-or, has-without, has-gone, has-replace}
+use Rattle.labels.proofs.Sets.{has-or, has-without, has-replace}
 use Rattle.expression.specs.declared.Kind.{Kind}
 use Rattle.expression.specs.declared.Kind.the-variants.{Head, Positive, Negative}
 use Rattle.expression.specs.declared.NewAtom.{NewAtom}
@@ -75,23 +75,26 @@ module _ (K : ℕ) where
   triple-within Union m q r h = h
   triple-within (Name at) m q r h = h
 
-  -- atoms meet a rule only by marks that are there
-  settles-more : (k : Kind) (i m q r : ℕ) → Within m q → Within m r → settles K k i q r ≡ true → settles K k i m m ≡ true
-  unfolding settles
-  settles-more Head i m q r a b e = b .at i e
-  settles-more Positive i m q r a b e = b .at (K + i) e
-  settles-more Negative i m q r a b e = a .at i e
-
-  pub connect-idle : (k : Kind) (i j m : ℕ) → connectTriple K k i j m m ≡ m → (q r : ℕ) → Within m q → Within m r → connectTriple K k i j q r ≡ r
+  -- where no triple has an unmet rule of label j, or none an atom of label i, a connect does nothing
+  pub no-rule-idle : (k : Kind) (i j m : ℕ) → has (2 * K + j) m ≡ false → (q r : ℕ) → Within m q → Within m r → connectTriple K k i j q r ≡ r
   unfolding connectTriple without
-  connect-idle k i j m e q r a b = go (settles K k i q r) refl
+  no-rule-idle k i j m n q r a b = go (settles K k i q r)
     where
-      go : (t : Bool) → settles K k i q r ≡ t → cond t (without (2 * K + j) r) r ≡ r
-      go false s = refl
-      go true s =
-          let w : without (2 * K + j) m ≡ m = sym (ap (λ t. cond t (without (2 * K + j) m) m) (settles-more k i m q r a b s)) ∙ e in
-          let n : has (2 * K + j) m ≡ false = sym (ap (has (2 * K + j)) w) ∙ has-gone (2 * K + j) m in
-          ap (λ t. cond t (r - 2 ^ (2 * K + j)) r) (not-true-false (has (2 * K + j) r) (λ h. true≢false (sym (b .at (2 * K + j) h) ∙ n)))
+      go : (t : Bool) → cond t (without (2 * K + j) r) r ≡ r
+      go false = refl
+      go true = ap (λ t. cond t (r - 2 ^ (2 * K + j)) r) (not-true-false (has (2 * K + j) r) (λ h. true≢false (sym (b .at (2 * K + j) h) ∙ n)))
+
+  pub no-atom-idle : (k : Kind) (i j m : ℕ) → has i m ≡ false → has (K + i) m ≡ false → (q r : ℕ) → Within m q → Within m r → connectTriple K k i j q r ≡ r
+  unfolding connectTriple settles
+  no-atom-idle k i j m t f q r a b = ap (λ s. cond s (without (2 * K + j) r) r) (unsettled k)
+    where
+      absent : (n x : ℕ) → has n m ≡ false → Within m x → has n x ≡ false
+      absent n x e w = not-true-false (has n x) (λ h. true≢false (sym (w .at n h) ∙ e))
+
+      unsettled : (k : Kind) → settles K k i q r ≡ false
+      unsettled Head = absent i r t b
+      unsettled Positive = absent (K + i) r f b
+      unsettled Negative = absent i q t a
 
   -- ---- an own triple with others behind it
 
@@ -113,9 +116,9 @@ module _ (K : ℕ) where
 -- ---- by the command's form
 
 module _ (K : ℕ) (c : Command) where
-  pub idle-told : (k : Kind) (i j m : ℕ) → c ≡ Connect k i j → mapTriple K c m m ≡ m → (q r : ℕ) → Within m q → Within m r → stepTriple K c q r ≡ r
-  unfolding mapTriple stepTriple
-  idle-told k i j m e h = let h' = rw e at h in rw e (connect-idle K k i j m h')
+  pub idle-told : (k : Kind) (i j m : ℕ) → c ≡ Connect k i j → ((q r : ℕ) → Within m q → Within m r → connectTriple K k i j q r ≡ r) → (q r : ℕ) → Within m q → Within m r → stepTriple K c q r ≡ r
+  unfolding stepTriple
+  idle-told k i j m e h = rw e h
 
   pub rule-marks : (g m : ℕ) → c ≡ Rule g → bitOr m (markU K g) ≡ marksAfter K c m
   unfolding marksAfter

@@ -123,15 +123,30 @@ fn alone(w: u32) -> u64
     w as u64
 }
 
-// Whether the command is a connect that changes no triple with no marks but these: it changes nothing of the marks themselves.
+// Whether there is such a mark.
+fn has_mark(marks: u32, n: u32) -> bool
+    requires { ⌜ n < 32 ⌝ }
+    ensures { λ b. ⌜ b ≡ has n marks ⌝ }
+{
+    (marks >> n) % 2 == 1
+}
+
+// Whether the command is a connect that could touch no triple with no marks but these: none has an unmet rule of its label j, or none has an atom of its
+// label i.
 fn is_idle(c: Command, marks: u32) -> bool
     requires { ⌜ Suits labelCount c ⌝ }
     ensures { λ b. ⌜ (b ≡ true → (q r : ℕ) → Within marks q → Within marks r → stepTriple labelCount c q r ≡ r) ⌝ }
 {
-    let Command::Connect(_, _, _) = c else {
+    let Command::Connect(_, i, j) = c else {
         return false;
     };
-    candidates::map_triple(c, marks, marks) == marks
+    if !has_mark(marks, 2 * LABELS + j) {
+        return true;
+    }
+    if has_mark(marks, i) {
+        return false;
+    }
+    !has_mark(marks, LABELS + i)
 }
 
 // The command c of a word w comes behind the first m words of code, unless it is idle. The answer is how many they are then.

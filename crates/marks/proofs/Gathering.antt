@@ -2,7 +2,7 @@
 use mathlib.Core.Path.{_≡_, sym, ap, _∙_, subst}
 use mathlib.Core.Bool.{_||_, or-true}
 use mathlib.Core.List.{List, [], _∷_}
-use Prim.Native.Nat.{ℕ, suc, _+_, _*_, _≤_, _<_}
+use Prim.Native.Nat.{ℕ, zero, suc, _+_, _*_, _≤_, _<_}
 use native.Mathlib.Decide.{decLe}
 use native.Mathlib.Omega.{arith}
 use lib.Bits.{bitOr}
@@ -48,11 +48,25 @@ pub all-places : {A : Type 0} (P : A → Type 0) (d : A) (xs : List A) → ((i :
 all-places P d [] h = tt
 all-places P d (x ∷ xs) h = (h 0 (omega arith), all-places P d xs (λ i l. h (suc i) (omega arith)))
 
--- a row, its own triple gathered first; n stands for its count as it is reckoned with
-pub row-marked : (r m n : ℕ) (row : List ℕ) → n ≡ getD row 1 0 → Within r (bitOr m (getD row 0 0)) → All (Within r) (take n (drop 2 row)) → Within r m × Marked r (pairOf row)
+-- a front and what stands behind it
+all-fewer : (P : ℕ → Type 0) (l n : ℕ) (xs : List ℕ) → n ≤ l → All P (take l xs) → All P (take n xs)
+all-fewer P l zero xs h a = tt
+all-fewer P zero (suc n) xs h a = absurd (omega arith)
+all-fewer P (suc l) (suc n) [] h a = tt
+all-fewer P (suc l) (suc n) (x ∷ xs) h a = (a .0, all-fewer P l n xs (omega arith) (a .1))
+
+all-parted : (P : ℕ → Type 0) (k l n : ℕ) (xs : List ℕ) → n ≤ k + l → All P (take k xs) → All P (take l (drop k xs)) → All P (take n xs)
+all-parted P zero l n xs h a b = all-fewer P l n xs (omega arith) b
+all-parted P (suc k) l zero xs h a b = tt
+all-parted P (suc k) l (suc n) [] h a b = tt
+all-parted P (suc k) l (suc n) (x ∷ xs) h a b = (a .0, all-parted P k l n xs (omega arith) (a .1) b)
+
+-- a row, its own triple gathered first, then k words, then l more: its triples are among them
+pub row-marked : (r m k l : ℕ) (row : List ℕ) → getD row 1 0 ≤ k + l → Within r (bitOr m (getD row 0 0)) → All (Within r) (take k (drop 2 row)) → All (Within r) (take l (drop k (drop 2 row)))
+    → Within r m × Marked r (pairOf row)
 unfolding pairOf
-row-marked r m n row e h k =
-    (within-more (within-left m (getD row 0 0)) h, (within-more (within-right m (getD row 0 0)) h, subst (λ (i : ℕ). All (Within r) (take i (drop 2 row))) e k))
+row-marked r m k l row n h a b =
+    (within-more (within-left m (getD row 0 0)) h, (within-more (within-right m (getD row 0 0)) h, all-parted (Within r) k l (getD row 1 0) (drop 2 row) n a b))
 
 -- the rows of an area, one by one
 module _ (w p a n : ℕ) (ws : List ℕ) (within : a + p * w ≤ length ws) (t : Rows w p n (part a (p * w) ws)) where

@@ -22,6 +22,10 @@ fn run_marks(run: &[u32], m: u32) -> u32
     all
 }
 
+// Most rows have no more subsets. So many words are looked at in every row that has them: zeros stand behind the subsets, and a loop of one length has no end for
+// the processor to guess.
+const SHORT: usize = 8;
+
 // The marks of m and of a row's triples. Between its own and the others stands their count, which is no triple.
 fn row_marks(row: &[u32], m: u32) -> u32
     requires { ⌜ Readable (now row) ⌝ }
@@ -29,7 +33,14 @@ fn row_marks(row: &[u32], m: u32) -> u32
 {
     let q = row[0];
     let n = row[1] as usize;
-    run_marks(&row[2..2 + n], m | q)
+    if row.len() < SHORT + 2 {
+        return run_marks(&row[2..2 + n], m | q);
+    }
+    let first = run_marks(&row[2..SHORT + 2], m | q);
+    if n <= SHORT {
+        return first;
+    }
+    run_marks(&row[SHORT + 2..2 + n], first)
 }
 
 // The marks of the n rows at word a.
