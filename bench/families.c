@@ -106,16 +106,22 @@ static void random_rule(instance *x, unsigned groups, unsigned codes)
 
 // ---- chains: 63 copies and 256 rules; a rule names copies among the last few
 
-static void chain(instance **next, const char *family, unsigned kept, unsigned codes, uint64_t seed)
+typedef void rule_writer(instance *, unsigned groups, unsigned codes);
+
+static void chain_of(instance *x, rule_writer *write, unsigned kept, unsigned codes, uint64_t seed)
 {
-    instance *x = begin(next, family, 64, 32);
     random_state = seed;
     unsigned rules = 0;
     for (unsigned c = 0; c < 63; c++) {
         if (c >= kept) move(x, c % kept, REST);
         copy(x, c % kept);
-        for (; c + 1 >= kept && rules < (c + 1) * 256 / 63; rules++) random_rule(x, kept, codes);
+        for (; c + 1 >= kept && rules < (c + 1) * 256 / 63; rules++) write(x, kept, codes);
     }
+}
+
+static void chain(instance **next, const char *family, unsigned kept, unsigned codes, uint64_t seed)
+{
+    chain_of(begin(next, family, 64, 32), random_rule, kept, codes, seed);
 }
 
 // ---- circles: each copy needs the next one, or is kept unless the next one is
@@ -262,14 +268,7 @@ static void rule_among_copies(instance *x, unsigned groups, unsigned codes)
 // A chain whose rules stand in the groups of the copies kept, and move with them.
 static void both_ways(instance **next, const char *family, unsigned kept, unsigned codes, uint64_t seed)
 {
-    instance *x = begin(next, family, 256, 64);
-    random_state = seed;
-    unsigned rules = 0;
-    for (unsigned c = 0; c < 63; c++) {
-        if (c >= kept) move(x, c % kept, REST);
-        copy(x, c % kept);
-        for (; c + 1 >= kept && rules < (c + 1) * 256 / 63; rules++) rule_among_copies(x, kept, codes);
-    }
+    chain_of(begin(next, family, 256, 64), rule_among_copies, kept, codes, seed);
 }
 
 // ---- balanced joins: two halves that share groups
