@@ -12,6 +12,7 @@ use mir.Val.{boolByte}
 use borrow.Author.Tests.{eq-eqb, ne-eqb, lt-ltb, le-ltb}
 use lib.ListN.{length, drop, getD, drop-of-length-le}
 use lib.Seq.{drop-cons}
+use Rattle.lists.proofs.Members.{map-same}
 use Rattle.labels.specs.Sets.{has, without}
 use Rattle.labels.proofs.Sets.{has-le, has-or, has-pow, has-without, set-ext}
 use Rattle.expression.specs.declared.Command.{Command}
@@ -101,10 +102,6 @@ module _ (K w q r : ℕ) where
   pub by-judge : judgesFrom K ≤ w → wordTriple K w q r ≡ judgeTriple K (judgeOf K w) q r
   unfolding wordTriple
   by-judge l = rw (le-ltb w (judgesFrom K) l)
-
-pub map-same : (f g : ℕ → ℕ) → ((r : ℕ) → f r ≡ g r) → (l : List ℕ) → map f l ≡ map g l
-map-same f g e [] = refl
-map-same f g e (x ∷ l) = ap₂ {C = List ℕ} (λ y m. y ∷ m) (e x) (map-same f g e l)
 
 -- each triple as a word makes it, by what it stands for
 module _ (K w q : ℕ) (l : List ℕ) where

@@ -9,7 +9,7 @@ use lib.Seq.{take-suc, take-suc-set, getD-set-other}
 use Rattle.expression.specs.declared.Command.{Command}
 use Rattle.tables.specs.Definitions.{ownTriple, subsets}
 use Rattle.batches.specs.Batches.{stepTriple, step, wordTriple, wordStep, wordSteps}
-use Rattle.batches.proofs.Words.{map-same}
+use Rattle.lists.proofs.Members.{map-map, map-same}
 
 -- ---- a word for a command
 
@@ -17,10 +17,6 @@ more-words : (K : ℕ) (ws : List ℕ) (w : ℕ) (x : List ℕ) → wordSteps K 
 unfolding wordSteps
 more-words K [] w x = refl
 more-words K (v ∷ ws) w x = more-words K ws w (wordStep K v x)
-
-map-two : (f g h : ℕ → ℕ) → ((r : ℕ) → h r ≡ f (g r)) → (l : List ℕ) → map h l ≡ map f (map g l)
-map-two f g h e [] = refl
-map-two f g h e (x ∷ l) = ap₂ {C = List ℕ} (λ y m. y ∷ m) (e x) (map-two f g h e l)
 
 module _ (K s : ℕ) (c : Command) where
   as-command : ((q r : ℕ) → wordTriple K s q r ≡ stepTriple K c q r) → (x : List ℕ) → wordStep K s x ≡ step K c x
@@ -32,7 +28,7 @@ module _ (K s : ℕ) (c : Command) where
       → wordStep K s x ≡ step K c (wordStep K w x)
   unfolding wordStep step
   as-both w e x =
-      ap₂ {C = List ℕ} (λ y m. y ∷ m) (e (ownTriple x) (ownTriple x)) (map-two (stepTriple K c (wordTriple K w (ownTriple x) (ownTriple x))) (wordTriple K w (ownTriple x)) (wordTriple K s (ownTriple x)) (e (ownTriple x)) (subsets x))
+      ap₂ {C = List ℕ} (λ y m. y ∷ m) (e (ownTriple x) (ownTriple x)) (sym (map-map (stepTriple K c (wordTriple K w (ownTriple x) (ownTriple x))) (wordTriple K w (ownTriple x)) (wordTriple K s (ownTriple x)) (λ r. sym (e (ownTriple x) r)) (subsets x)))
 
 module _ (K : ℕ) (code : List ℕ) (m s : ℕ) (c : Command) (x : List ℕ) where
   -- in place of the last word

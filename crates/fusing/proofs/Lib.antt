@@ -3,3 +3,4 @@ pub mod Leaving
 pub mod Words
 pub mod Fusing
 pub mod Marks
+pub mod Halves

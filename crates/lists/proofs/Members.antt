@@ -145,6 +145,15 @@ pub all-map : {A B : Type 0} (P : A → Type 0) (Q : B → Type 0) (f : A → B)
 all-map P Q f g [] h = tt
 all-map P Q f g (x ∷ xs) h = (g x (h .0), all-map P Q f g xs (h .1))
 
+-- a list mapped twice, and by two maps that are alike
+pub map-map : {A B C : Type 0} (f : B → C) (g : A → B) (h : A → C) → ((x : A) → f (g x) ≡ h x) → (xs : List A) → map f (map g xs) ≡ map h xs
+map-map f g h e [] = refl
+map-map {C = C} f g h e (x ∷ xs) = ap₂ {C = List C} (λ y ys. y ∷ ys) (e x) (map-map f g h e xs)
+
+pub map-same : {A B : Type 0} (f g : A → B) → ((x : A) → f x ≡ g x) → (xs : List A) → map f xs ≡ map g xs
+map-same f g e [] = refl
+map-same {B = B} f g e (x ∷ xs) = ap₂ {C = List B} (λ y ys. y ∷ ys) (e x) (map-same f g e xs)
+
 pub map-take : {A B : Type 0} (f : A → B) (k : ℕ) (xs : List A) → map f (take k xs) ≡ take k (map f xs)
 map-take f zero xs = refl
 map-take f (suc k) [] = refl

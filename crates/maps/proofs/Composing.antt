@@ -8,6 +8,7 @@ use Rattle.lists.specs.declared.Order.{Order}
 use Rattle.lists.specs.declared.Order.the-variants.{Less, Same, More}
 use Rattle.lists.specs.Lists.{All, products}
 use Rattle.lists.specs.Sorted.{compareNumbers, compareLists, second, byOrder, insert, insertAll, canon, setOf}
+use Rattle.lists.proofs.Members.{map-map}
 use Rattle.lists.proofs.Comparisons.{numbers-lawful, lists-lawful}
 use Rattle.lists.proofs.Canon.{rising-canon, canon-rising, canon-map}
 use Rattle.labels.specs.Labels.{labelCount}
@@ -82,10 +83,6 @@ either-joins : (carry : Carry) (a b c : Value) → carriedBy carry .either (carr
 either-joins Nothing a b c = refl
 either-joins First a b c = ap inLow (omega arith)
 either-joins Consequences a b c = consequences-semiring .either-assoc a b c
-
-map-map : (f g h : Entry → Entry) → ((x : Entry) → f (g x) ≡ h x) → (t : List Entry) → map f (map g t) ≡ map h t
-map-map f g h e [] = refl
-map-map f g h e (x ∷ t) = ap₂ {C = List Entry} (λ y l. y ∷ l) (e x) (map-map f g h e t)
 
 -- what one half of a link makes of a pair
 abbrev pub half : Kind → ℕ → ℕ → Pair → Pair

@@ -8,9 +8,9 @@ use native.Mathlib.Omega.{arith}
 use lib.Bits.{bitOr}
 use native.Mathlib.Numerals.{add-one}
 use lib.ListN.{length, take, drop, getD}
-use lib.Seq.{take-suc}
+use lib.Seq.{take-suc, take-take}
 use Rattle.lists.specs.Lists.{All}
-use Rattle.lists.proofs.Members.{all-append}
+use Rattle.lists.proofs.Members.{all-append, all-take}
 use Rattle.labels.specs.Sets.{has, Within}
 use Rattle.labels.proofs.Sets.{has-or}
 use Rattle.candidates.specs.Candidates.{pairOf}
@@ -49,14 +49,8 @@ all-places P d [] h = tt
 all-places P d (x ∷ xs) h = (h 0 (omega arith), all-places P d xs (λ i l. h (suc i) (omega arith)))
 
 -- a front and what stands behind it
-all-fewer : (P : ℕ → Type 0) (l n : ℕ) (xs : List ℕ) → n ≤ l → All P (take l xs) → All P (take n xs)
-all-fewer P l zero xs h a = tt
-all-fewer P zero (suc n) xs h a = absurd (omega arith)
-all-fewer P (suc l) (suc n) [] h a = tt
-all-fewer P (suc l) (suc n) (x ∷ xs) h a = (a .0, all-fewer P l n xs (omega arith) (a .1))
-
 all-parted : (P : ℕ → Type 0) (k l n : ℕ) (xs : List ℕ) → n ≤ k + l → All P (take k xs) → All P (take l (drop k xs)) → All P (take n xs)
-all-parted P zero l n xs h a b = all-fewer P l n xs (omega arith) b
+all-parted P zero l n xs h a b = subst (All P) (take-take n l xs (omega arith)) (all-take P n (take l xs) b)
 all-parted P (suc k) l zero xs h a b = tt
 all-parted P (suc k) l (suc n) [] h a b = tt
 all-parted P (suc k) l (suc n) (x ∷ xs) h a b = (a .0, all-parted P k l n xs (omega arith) (a .1) b)

@@ -22,8 +22,8 @@ fn run_marks(run: &[u32], m: u32) -> u32
     all
 }
 
-// Most rows have no more subsets. So many words are looked at in every row that has them: zeros stand behind the subsets, and a loop of one length has no end for
-// the processor to guess.
+// Most rows have no more subsets. So many words are looked at in every row that has them, since zeros stand behind the subsets: of the forms that were timed the
+// fastest.
 const SHORT: usize = 8;
 
 // The marks of m and of a row's triples. Between its own and the others stands their count, which is no triple.

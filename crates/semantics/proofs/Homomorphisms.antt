@@ -24,7 +24,7 @@ module _ {Y Z : Type 0} {B : Operations Y} {C : Operations Z} {h : Y → Z} (H :
   fold-map (relabel i j e) = H .relabelOp i j (fold B e) ∙ ap (C .relabelOp i j) (fold-map e)
   fold-map (connect k i j e) = H .connectOp k i j (fold B e) ∙ ap (C .connectOp k i j) (fold-map e)
 
-  pub link-map : (k : Kind) (i j : ℕ) (y : Y) → h (link B k i j y) ≡ link C k i j (h y)
+  link-map : (k : Kind) (i j : ℕ) (y : Y) → h (link B k i j y) ≡ link C k i j (h y)
   link-map k i j y = H .connectOp k j i (B .connectOp k i j y) ∙ ap (C .connectOp k j i) (H .connectOp k i j y)
 
   -- the front of a stack changes, the rest stays

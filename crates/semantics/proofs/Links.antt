@@ -1,11 +1,12 @@
 -- A link has no direction (02, Item 11): the two connects that it is make of each rule what `linkRule` says, by the part as it was; so i j and j i are one.
 -- Assumes nothing.
-use mathlib.Core.Path.{_≡_, refl, sym, ap, ap₂, _∙_}
+use mathlib.Core.Path.{_≡_, refl, sym, _∙_}
 use mathlib.Core.Bool.{Bool, true, false, cond}
-use mathlib.Core.List.{List, [], _∷_, map}
+use mathlib.Core.List.{List, map}
 use Prim.Native.Nat.{ℕ}
 use lib.Dec.{eqb}
 use borrow.Author.Tests.{eqb-true, ne-eqb}
+use Rattle.lists.proofs.Members.{map-map, map-same}
 use Rattle.expression.specs.declared.Kind.{Kind}
 use Rattle.semantics.specs.Expressions.{Expr, connect, link, trees}
 use Rattle.semantics.specs.Programs.{Atom, Rule, atoms, labelled, extend, connectRule, linkRule, rules}
@@ -30,22 +31,14 @@ module _ (k : Kind) (i j : ℕ) (apart : i ≡ j → ⊥) where
       step true e = rw (ne-eqb (r .label) j (λ q. apart (sym (eqb-true (r .label) i e) ∙ q))) refl
       step false e = refl
 
-each : (f g h : Rule → Rule) → ((r : Rule) → f (g r) ≡ h r) → (rs : List Rule) → map f (map g rs) ≡ map h rs
-each f g h e [] = refl
-each f g h e (r ∷ rs) = ap₂ {C = List Rule} (λ s ss. s ∷ ss) (e r) (each f g h e rs)
-
 -- the rules of a link
 pub rules-linked : (k : Kind) (i j : ℕ) → (i ≡ j → ⊥) → (e : Expr) → rules (link trees k i j e) ≡ map (linkRule k i j (atoms e)) (rules e)
 unfolding trees rules atoms
-rules-linked k i j apart e = each (connectRule k i (labelled j (atoms e))) (connectRule k j (labelled i (atoms e))) (linkRule k i j (atoms e)) (both-ways k i j apart (atoms e)) (rules e)
+rules-linked k i j apart e = map-map (connectRule k i (labelled j (atoms e))) (connectRule k j (labelled i (atoms e))) (linkRule k i j (atoms e)) (both-ways k i j apart (atoms e)) (rules e)
 
 -- the same the other way round: so the same models and answer sets
 pub rules-turned : (k : Kind) (i j : ℕ) → (i ≡ j → ⊥) → (e : Expr) → rules (link trees k i j e) ≡ rules (link trees k j i e)
 rules-turned k i j apart e =
     rules-linked k i j apart e
-    ∙ same (rules e)
+    ∙ map-same (linkRule k i j (atoms e)) (linkRule k j i (atoms e)) (turned k i j apart (atoms e)) (rules e)
     ∙ sym (rules-linked k j i (λ q. apart (sym q)) e)
-  where
-    same : (rs : List Rule) → map (linkRule k i j (atoms e)) rs ≡ map (linkRule k j i (atoms e)) rs
-    same [] = refl
-    same (r ∷ rs) = ap₂ {C = List Rule} (λ s ss. s ∷ ss) (turned k i j apart (atoms e) r) (same rs)

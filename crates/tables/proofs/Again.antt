@@ -1,19 +1,20 @@
 -- A link given again changes no table (01, "The sheet"), with other links between or none; its two halves commute (02, Item 11), as any two connects do.
 -- Assumes nothing.
 use mathlib.Core.Path.{_≡_, refl, sym, ap, ap₂, _∙_}
-use mathlib.Core.Bool.{Bool, true, false, cond, not, _&&_, and-true}
+use mathlib.Core.Bool.{Bool, true, false, cond, not, _&&_, and-true, and-false}
 use mathlib.Core.List.{List, [], _∷_, map}
 use Prim.Native.Nat.{ℕ, _+_, _*_, _-_, _^_, _<_}
 use native.Mathlib.Omega.{arith}
 use lib.Dec.{eqb}
-use borrow.Author.Tests.{ne-eqb}
+use borrow.Author.Tests.{eq-eqb, ne-eqb}
 use Rattle.lists.specs.declared.Order.{Order}
 use Rattle.lists.specs.Lists.{All}
 use Rattle.lists.specs.Sorted.{compareNumbers, second, canon, setOf}
+use Rattle.lists.proofs.Members.{map-map}
 use Rattle.lists.proofs.Comparisons.{Lawful, numbers-lawful}
 use Rattle.lists.proofs.Canon.{canon-map}
 use Rattle.labels.specs.Sets.{has, without}
-use Rattle.labels.proofs.Sets.{has-without, has-gone, set-ext}
+use Rattle.labels.proofs.Sets.{has-without, set-ext}
 use Rattle.expression.specs.declared.Kind.{Kind}
 use Rattle.expression.specs.declared.Kind.the-variants.{Head, Positive, Negative}
 use Rattle.semantics.specs.Expressions.{Expr, fold, link, trees}
@@ -24,10 +25,6 @@ use Rattle.tables.specs.Definitions.{Pair, ownTriple, subsets, mapPair, 
 use Rattle.tables.proofs.Answers.{triples-lawful, pairs-lawful}
 
 -- ---- tables over any algebra
-
-map-again : {X : Type 0} (f g : X → X) → ((x : X) → g (f x) ≡ f x) → (xs : List X) → map g (map f xs) ≡ map f xs
-map-again f g h [] = refl
-map-again {X} f g h (x ∷ xs) = ap₂ {C = List X} (λ y ys. y ∷ ys) (h x) (map-again f g h xs)
 
 -- two maps, in order before and after, by what they do to each element
 canon-maps : {X : Type 0} {cmp : X → X → Order} {merge : X → X → X} → Lawful cmp merge → (f g f′ g′ : X → X) → ((x : X) → g (f x) ≡ g′ (f′ x))
@@ -42,7 +39,10 @@ canon-maps {X} {cmp} {merge} L f g f′ g′ h xs = canon-map L L g (map f xs) �
 
 without-again : (m a : ℕ) → without m (without m a) ≡ without m a
 unfolding without
-without-again m a = ap (λ b. cond b (without m a - 2 ^ m) (without m a)) (has-gone m a)
+without-again m a = ap (λ b. cond b (without m a - 2 ^ m) (without m a)) gone
+  where
+    gone : has m (without m a) ≡ false
+    gone = has-without m m a ∙ ap (λ b. has m a && not b) (eq-eqb m m refl) ∙ and-false (has m a)
 
 -- what is settled has lost the mark m, and what is not is as it was
 cond-again : (m r : ℕ) (b c : Bool) → (b ≡ false → c ≡ false) → cond c (without m (cond b (without m r) r)) (cond b (without m r) r) ≡ cond b (without m r) r
@@ -68,7 +68,7 @@ module _ (K : ℕ) (k : Kind) (i j : ℕ) where
   pair-again x =
       ap₂ {C = Pair} (λ q s. q ∷ s) (triple-again q q)
       (canon-map numbers-lawful numbers-lawful (connectTriple K k i j (connectTriple K k i j q q)) (map (connectTriple K k i j q) (subsets x))
-      ∙ ap (canon compareNumbers second) (map-again (connectTriple K k i j q) (connectTriple K k i j (connectTriple K k i j q q)) (triple-again q) (subsets x)))
+      ∙ ap (canon compareNumbers second) (map-map (connectTriple K k i j (connectTriple K k i j q q)) (connectTriple K k i j q) (connectTriple K k i j q) (triple-again q) (subsets x)))
     where
       q : ℕ
       q = ownTriple x
@@ -179,11 +179,7 @@ module _ {X : Type 0} {K : ℕ} {A : Algebra X} (C : Commuting K A) (o : Assumpt
   unfolding table tables fold trees
   table-linked l e =
       canon-map (C .lawful) (C .lawful) (A .connected (l .kind) (l .to) (l .from)) (map (A .connected (l .kind) (l .from) (l .to)) (table A o e))
-      ∙ ap (canon (A .order) (A .merge)) (two (table A o e))
-    where
-      two : (t : List X) → map (A .connected (l .kind) (l .to) (l .from)) (map (A .connected (l .kind) (l .from) (l .to)) t) ≡ map (both l) t
-      two [] = refl
-      two (x ∷ t) = ap {B = List X} (λ ys. both l x ∷ ys) (two t)
+      ∙ ap (canon (A .order) (A .merge)) (map-map (A .connected (l .kind) (l .to) (l .from)) (A .connected (l .kind) (l .from) (l .to)) (both l) (λ x. refl) (table A o e))
 
   both-again : (l : Link) → Below K l → (x : X) → both l (both l x) ≡ both l x
   both-again l (a, b) x =
@@ -209,7 +205,7 @@ module _ {X : Type 0} {K : ℕ} {A : Algebra X} (C : Commuting K A) (o : Assumpt
       table-linked l (linked l e)
       ∙ ap (tabled (both l)) (table-linked l e)
       ∙ canon-map (C .lawful) (C .lawful) (both l) (map (both l) (table A o e))
-      ∙ ap (canon (A .order) (A .merge)) (map-again (both l) (both l) (both-again l low) (table A o e))
+      ∙ ap (canon (A .order) (A .merge)) (map-map (both l) (both l) (both l) (both-again l low) (table A o e))
       ∙ sym (table-linked l e)
   table-later l low e (m ∷ ms) h =
       table-linked l (linked m (withLinks ms (linked l e)))

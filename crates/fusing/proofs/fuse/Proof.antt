@@ -7,7 +7,8 @@ use lib.ListN.{length, take, drop}
 use Rattle.labels.specs.Labels.{labelCount}
 use Rattle.marks.specs.Marks.{Marked}
 use Rattle.batches.specs.Batches.{commandsOf, steps, wordSteps}
-use Rattle.fusing.proofs.Marks.{step-marked, left, half-done, next-half, no-halves, halves-fall, words-grow}
+use Rattle.fusing.proofs.Halves.{left, half-done, next-half, no-halves, halves-fall, words-grow}
+use Rattle.fusing.proofs.Marks.{step-marked}
 use Rattle.fusing.proofs.fuse.Statement.{statement}
 use Rattle.fusing.proofs.fuse.Tie as tie
 

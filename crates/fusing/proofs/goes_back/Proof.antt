@@ -4,7 +4,8 @@ use native.Mathlib.Omega.{arith}
 use Rattle.labels.specs.Labels.{labelCount}
 use Rattle.expression.specs.Commands.{Suits}
 use Rattle.candidates.proofs.Mapping.{connect-labels}
-use Rattle.fusing.proofs.Marks.{step-idle, connect-link, connect-reverse, relabel-alone, rule-alone, atom-alone, union-alone, name-alone}
+use Rattle.fusing.proofs.Halves.{connect-link, connect-reverse, relabel-alone, rule-alone, atom-alone, union-alone, name-alone}
+use Rattle.fusing.proofs.Marks.{step-idle}
 use borrow.Author.Needs.{needs}
 use Rattle.fusing.proofs.goes_back.Statement.{statement}
 use Rattle.fusing.proofs.goes_back.Tie as tie

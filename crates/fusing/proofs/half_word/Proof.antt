@@ -8,7 +8,7 @@ use Rattle.candidates.proofs.Mapping.{connect-labels}
 use Rattle.batches.specs.Batches.{commandOf}
 use Rattle.batches.proofs.Steps.{suits-word}
 use Rattle.fusing.specs.Fusing.{halfOf}
-use Rattle.fusing.proofs.Marks.{second-half, connect-turned, relabel-alone, rule-alone, atom-alone, union-alone, name-alone}
+use Rattle.fusing.proofs.Halves.{second-half, connect-turned, relabel-alone, rule-alone, atom-alone, union-alone, name-alone}
 use borrow.Author.Needs.{needs}
 use Rattle.fusing.proofs.half_word.Statement.{statement}
 use Rattle.fusing.proofs.half_word.Tie as tie
