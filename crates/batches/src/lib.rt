@@ -253,14 +253,31 @@ fn step_all(run: &mut [u32], q: u32, code: &[u64]) -> u32
     own
 }
 
+// How many triples the vectors of a loop over them have.
+const BLOCK: usize = 8;
+
+// n in whole blocks where there is room for them, else n.
+fn in_blocks(n: usize, room: usize) -> usize
+    requires { ⌜ (n ≤ room) × (room ≤ 4096) ⌝ }
+    ensures { λ k. ⌜ (n ≤ k) × (k ≤ room) ⌝ }
+{
+    let k = (n + (BLOCK - 1)) / BLOCK * BLOCK;
+    if k <= room {
+        return k;
+    }
+    n
+}
+
 // The subsets that the words make of src, where q is the interpretation's own triple. There are no more than before, so each finds room.
+// Words behind them are stepped too, up to a whole block: so a loop over a few of them has no remainder, whose length the processor would have to guess.
 fn batch_subsets(run: &mut [u32], src: &[u32], q: u32, code: &[u64]) -> Left
-    requires { ⌜ length (now src) ≤ length (now run) ⌝ }
+    requires { ⌜ (length (now src) ≤ length (now run)) × (length (now run) ≤ 4096) ⌝ }
     ensures { λ r. ⌜ (r .count ≤ length (now (src .entry))) × (r .own ∷ take (r .count) (now (run .exit)) ≡ wordsPair labelCount (now (code .entry)) (q ∷ now (src .entry))) ⌝ }
 {
     let n = src.len();
     words::copy_words(run, src);
-    let own = step_all(&mut run[..n], q, code);
+    let k = in_blocks(n, run.len());
+    let own = step_all(&mut run[..k], q, code);
     let count = runs::settle(run, n);
     Left { own, count }
 }

@@ -1,4 +1,4 @@
--- `batches::batch_subsets`: the triples are copied, stepped where they stand, and put in order.
+-- `batches::batch_subsets`: the triples are copied, stepped where they stand, in whole blocks, and put in order.
 use mathlib.Core.Path.{refl, sym}
 use native.Mathlib.Omega.{arith}
 use lib.ListN.{length}
@@ -12,14 +12,17 @@ use Rattle.batches.proofs.batch_subsets.Tie as tie
 copy-words-requires : tie.Need-copy-words-requires
 copy-words-requires c κs = search needs
 
+in-blocks-requires : tie.Need-in-blocks-requires
+in-blocks-requires c κs = search needs
+
 slice-relend-prefix-step-all : tie.Need-slice-relend-prefix-step-all
 slice-relend-prefix-step-all c = search needs
 
 slice-aggregate-step-all : tie.Need-slice-aggregate-step-all
 slice-aggregate-step-all c =
-    let u = c .before .before .before in
-    let s = u .before .before .before .before .before in
-    sym (length-take-le (length (s .args .src .now)) (u .copy-words .last .0) (omega (arith, u .copy-words .kept .0, s .pre)))
+    let b = c .before in
+    let u = b .before .before .before in
+    sym (length-take-le (b .in-blocks .result) (u .copy-words .last .0) (b .in-blocks .ensures .1))
 
 step-all-requires : tie.Need-step-all-requires
 step-all-requires c κs = search needs
@@ -34,15 +37,19 @@ returns : tie.Need-returns
 returns c =
     let g = c .before .before in
     let h = g .before .before .before .before in
-    let k = h .before .before .before .before in
-    let s = k .before .before .before .before .before in
-    (g .settle .ensures .0, made-pair labelCount (s .args .code .now) (s .args .q) _ (g .settle .result) (length (s .args .src .now)) (s .args .src .now) (s .args .run .now) (k .copy-words .last .0) (h .step-all .last .0) _ (g .settle .last .0) refl (k .copy-words .ensures) (h .step-all .ensures) (h .step-all .kept .0) refl (g .settle .ensures .1))
+    let b = h .before .before in
+    let k = b .before .before .before in
+    let s = k .before .before .before .before .before in (
+      g .settle .ensures .0,
+      made-pair labelCount (s .args .code .now) (s .args .q) _ (g .settle .result) (length (s .args .src .now)) (b .in-blocks .result) (s .args .src .now) (s .args .run .now) (k .copy-words .last .0) (h .step-all .last .0) _ (g .settle .last .0) refl (b .in-blocks .ensures .0) (b .in-blocks .ensures .1) (k .copy-words .ensures) (h .step-all .ensures) (h .step-all .kept .0) refl (g .settle .ensures .1),
+    )
 
 pub batch-subsets-spec : {M : Type 1} → statement M
 batch-subsets-spec =
     tie.close
     (tie.spec
     copy-words-requires
+    in-blocks-requires
     slice-relend-prefix-step-all
     slice-aggregate-step-all
     step-all-requires
