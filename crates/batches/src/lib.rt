@@ -268,15 +268,14 @@ fn in_blocks(n: usize, room: usize) -> usize
     n
 }
 
-// The subsets that the words make of src, where q is the interpretation's own triple. There are no more than before, so each finds room.
-// Words behind them are stepped too, up to a whole block: so a loop over a few of them has no remainder, whose length the processor would have to guess.
-fn batch_subsets(run: &mut [u32], src: &[u32], q: u32, code: &[u64]) -> Left
-    requires { ⌜ (length (now src) ≤ length (now run)) × (length (now run) ≤ 4096) ⌝ }
-    ensures { λ r. ⌜ (r .count ≤ length (now (src .entry))) × (r .own ∷ take (r .count) (now (run .exit)) ≡ wordsPair labelCount (now (code .entry)) (q ∷ now (src .entry))) ⌝ }
+// What the words make of the first n numbers of src, where q is the interpretation's own triple. There are no more than before, so each finds room. Numbers behind
+// them are copied and stepped too, up to a whole block: so short loops have no remainder, whose length the processor would have to guess.
+fn batch_subsets(run: &mut [u32], src: &[u32], n: usize, q: u32, code: &[u64]) -> Left
+    requires { ⌜ (n ≤ length (now src)) × (length (now src) ≤ length (now run)) × (length (now run) ≤ 4096) ⌝ }
+    ensures { λ r. ⌜ (r .count ≤ n) × (r .own ∷ take (r .count) (now (run .exit)) ≡ wordsPair labelCount (now (code .entry)) (q ∷ take n (now (src .entry)))) ⌝ }
 {
-    let n = src.len();
-    words::copy_words(run, src);
-    let k = in_blocks(n, run.len());
+    let k = in_blocks(n, src.len());
+    words::copy_words(run, &src[..k]);
     let own = step_all(&mut run[..k], q, code);
     let count = runs::settle(run, n);
     Left { own, count }
@@ -290,7 +289,7 @@ pub fn batch_row(row: &mut [u32], src: &[u32], code: &[u64]) -> usize
 {
     let q = src[0];
     let n = src[1] as usize;
-    let left = batch_subsets(&mut row[2..], &src[2..2 + n], q, code);
+    let left = batch_subsets(&mut row[2..], &src[2..], n, q, code);
     row[0] = left.own;
     row[1] = left.count as u32;
     left.count

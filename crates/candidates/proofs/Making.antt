@@ -37,7 +37,3 @@ holds row xs ys q m h e g l = record { fits = λ k. made row xs ys q m h e g l; 
 pub exceeds : (row xs ys row' : List ℕ) (q m : ℕ) → 2 ≤ length row → length ys ≡ length (behind row) → Filled xs m ys → length row - 2 < m → Made (length row) m (q ∷ xs) row'
 exceeds row xs ys row' q m h e g l =
     record { fits = λ k. absurd (omega arith); full = λ k. omega (arith, e, g .full (omega (arith, e, room row)), room row) }
-
--- the subsets of a row within a row as long
-pub no-more : (src row : List ℕ) (n : ℕ) → length src ≤ length row → length (take n (drop 2 src)) ≤ length (behind row)
-no-more src row n l = simp (length-take, length-drop) (omega arith)

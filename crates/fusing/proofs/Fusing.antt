@@ -75,12 +75,13 @@ module _ (K : ℕ) (code : List ℕ) (m s : ℕ) (x : List ℕ) (l : 2 ≤ m) (k
   twice-same : ((q r : ℕ) → wordTriple K last (wordTriple K s q q) (wordTriple K s q r) ≡ wordTriple K last (wordTriple K first q q) (wordTriple K first q r))
       → (y : List ℕ) → wordStep K last (wordStep K s y) ≡ wordStep K last (wordStep K first y)
   unfolding wordStep
-  twice-same e y = ap₂ {C = List ℕ} (λ u v. u ∷ v) (e (ownTriple y) (ownTriple y)) (each (subsets y))
+  twice-same e y = ap₂ {C = List ℕ} (λ u v. u ∷ v) (e q q) (map-map (wordTriple K last (wordTriple K s q q)) (wordTriple K s q) both (e q) (subsets y) ∙ sym (map-map (wordTriple K last (wordTriple K first q q)) (wordTriple K first q) both (λ r. refl) (subsets y)))
     where
-      each : (t : List ℕ) → map (wordTriple K last (wordTriple K s (ownTriple y) (ownTriple y))) (map (wordTriple K s (ownTriple y)) t)
-          ≡ map (wordTriple K last (wordTriple K first (ownTriple y) (ownTriple y))) (map (wordTriple K first (ownTriple y)) t)
-      each [] = refl
-      each (z ∷ t) = ap₂ {C = List ℕ} (λ u v. u ∷ v) (e (ownTriple y) z) (each t)
+      q : ℕ
+      q = ownTriple y
+
+      both : ℕ → ℕ
+      both r = wordTriple K last (wordTriple K first q q) (wordTriple K first q r)
 
   pub put-first : ((q r : ℕ) → wordTriple K last (wordTriple K s q q) (wordTriple K s q r) ≡ wordTriple K last (wordTriple K first q q) (wordTriple K first q r))
       → wordSteps K (take m (set code (m - 2) s)) x ≡ wordSteps K (take m code) x

@@ -8,7 +8,7 @@ use lib.Dec.{eqb}
 use borrow.Author.Tests.{eqb-true, eqb-false, eq-eqb, ne-eqb}
 use Rattle.lists.proofs.Members.{not-true-false}
 use Rattle.labels.specs.Sets.{has, without, replace}
-use Rattle.labels.proofs.Sets.{has-none, has-none-zero, has-or, has-and, has-pow, has-without, has-replace, set-ext}
+use Rattle.labels.proofs.Sets.{has-none, has-none-zero, has-or, has-and, has-pow, has-without, has-gone, has-replace, set-ext}
 use Rattle.expression.specs.declared.Kind.{Kind}
 use Rattle.expression.specs.declared.Kind.the-variants.{Head, Positive, Negative}
 use Rattle.tables.specs.Triples.{markU, relabelTriple, settles, connectTriple}
@@ -17,10 +17,6 @@ use Rattle.batches.specs.Batches.{isMet, settled, judgeTriple}
 use Rattle.batches.proofs.Words.{without-or}
 
 -- ---- sets
-
--- taken out, it is not in the set
-pub taken : (n a : ℕ) → has n (without n a) ≡ false
-taken n a = has-without n n a ∙ ap (λ b. has n a && not b) (eq-eqb n n refl) ∙ and-false (has n a)
 
 pub absent-out : (n a : ℕ) → has n a ≡ false → without n a ≡ a
 unfolding without
@@ -81,7 +77,7 @@ module _ (b : Bool) (u r : ℕ) where
   marked-more d = go b d
     where
       go : (b d : Bool) → cond d (without u (cond b (without u r) (bitOr r (2 ^ u)))) (cond b (without u r) (bitOr r (2 ^ u))) ≡ cond (b || d) (without u r) (bitOr r (2 ^ u))
-      go true true = absent-out u (without u r) (taken u r)
+      go true true = absent-out u (without u r) (has-gone u r)
       go true false = refl
       go false true = without-or u r
       go false false = refl

@@ -8,12 +8,12 @@ use lib.Bits.{bitAnd, bitOr, or-comm}
 use lib.Dec.{eqb}
 use borrow.Author.Tests.{eqb-true, eq-eqb, ne-eqb}
 use Rattle.labels.specs.Sets.{has, without, replace}
-use Rattle.labels.proofs.Sets.{has-or, has-and, has-pow, has-without, has-replace, has-ge, set-ext}
+use Rattle.labels.proofs.Sets.{has-or, has-and, has-pow, has-without, has-gone, has-replace, has-ge, set-ext}
 use Rattle.tables.specs.Triples.{markU, relabelTriple}
 use Rattle.batches.specs.declared.Judge.{Judge}
 use Rattle.batches.specs.Batches.{isMet, settled, judgeTriple}
 use Rattle.batches.proofs.Words.{with-has, without-or}
-use Rattle.fusing.proofs.Judging.{taken, absent-out, marked, judged}
+use Rattle.fusing.proofs.Judging.{absent-out, marked, judged}
 
 -- ---- sets
 
@@ -90,7 +90,7 @@ module _ (K g h : ℕ) (lg : g < K) (lh : h < K) (ne : g ≡ h → ⊥) where
 
   is-put : (b : Bool) (y : ℕ) → relabelTriple K g h (marked b (2 * K + g) y) ≡ put b (cleared y)
   unfolding relabelTriple
-  is-put true y = ap (λ t. replace g h (replace (K + g) (K + h) t)) (absent (2 * K + g) (2 * K + h) (without (2 * K + g) y) (taken (2 * K + g) y))
+  is-put true y = ap (λ t. replace g h (replace (K + g) (K + h) t)) (absent (2 * K + g) (2 * K + h) (without (2 * K + g) y) (has-gone (2 * K + g) y))
   is-put false y =
       relabel-put (bitOr y (2 ^ (2 * K + g))) (without (2 * K + g) y)
       (present (2 * K + g) (2 * K + h) (bitOr y (2 ^ (2 * K + g))) (with-has (2 * K + g) y) ∙ ap (bitOr (2 ^ (2 * K + h))) (without-or (2 * K + g) y))
@@ -111,7 +111,7 @@ module _ (K g h : ℕ) (lg : g < K) (lh : h < K) (ne : g ≡ h → ⊥) where
       no-u : has (2 * K + g) (cleared y) ≡ false
       no-u =
           stays g h (replace (K + g) (K + h) (without (2 * K + g) y)) (2 * K + g) (λ x. omega arith) (λ x. omega arith)
-          ∙ stays (K + g) (K + h) (without (2 * K + g) y) (2 * K + g) (λ x. omega arith) (λ x. omega arith) ∙ taken (2 * K + g) y
+          ∙ stays (K + g) (K + h) (without (2 * K + g) y) (2 * K + g) (λ x. omega arith) (λ x. omega arith) ∙ has-gone (2 * K + g) y
 
       no-f : has (K + g) (cleared y) ≡ false
       no-f = stays g h (replace (K + g) (K + h) (without (2 * K + g) y)) (K + g) (λ x. omega arith) (λ x. omega arith) ∙ gone (K + g) (K + h) (without (2 * K + g) y) (λ x. ne (omega arith))

@@ -74,30 +74,27 @@ module _ (K w : ℕ) (j : Judge) (k : Kind) (i q r : ℕ) (fit : 2 * K ≤ w) wh
 
 -- ---- a rule's word, and the word after a command more
 
+reads : (K t : ℕ) → judgesFrom K ≤ t → (k : Judge) → k ≡ judgeOf K t → (q r : ℕ) → wordTriple K t q r ≡ judgeTriple K k q r
+reads K t l k e q r = by-judge K t q r l ∙ ap (λ (y : Judge). judgeTriple K y q r) (sym e)
+
 module _ (K w : ℕ) (j : Judge) (lw : judgesFrom K ≤ w) (ej : j ≡ judgeOf K w) (s : ℕ) (x : Judge) (ls : judgesFrom K ≤ s) (ex : judgeOf K s ≡ x) where
-  before : (q r : ℕ) → judgeTriple K j q r ≡ wordTriple K w q r
-  before q r = ap (λ (y : Judge). judgeTriple K y q r) ej ∙ sym (by-judge K w q r lw)
-
-  then : (q r : ℕ) → wordTriple K s q r ≡ judgeTriple K x q r
-  then q r = by-judge K s q r ls ∙ ap (λ (y : Judge). judgeTriple K y q r) ex
-
   module _ (g : ℕ) (el : j .label ≡ g) (ea : j .after ≡ g) (ez : j .leaves ≡ 0) (xz : x .leaves ≡ 0) (c : Command) (q r : ℕ) where
     pub connect-fused : (k : Kind) (i : ℕ) → c ≡ Connect k i g → i < K → x .label ≡ g → x .after ≡ g → isMet x q r ≡ (isMet j q r || settles K k i q r)
         → wordTriple K s q r ≡ stepTriple K c (wordTriple K w q q) (wordTriple K w q r)
     unfolding stepTriple
     connect-fused k i ec l xl xa m =
-        then q r
+        reads K s ls x (sym ex) q r
         ∙ connect-more K j x g el ea ez xz q r k i l xl xa m
-        ∙ ap₂ (connectTriple K k i g) (before q q) (before q r)
+        ∙ ap₂ (connectTriple K k i g) (sym (reads K w lw j ej q q)) (sym (reads K w lw j ej q r))
         ∙ ap (λ (d : Command). stepTriple K d (wordTriple K w q q) (wordTriple K w q r)) (sym ec)
 
     pub relabel-fused : (h : ℕ) → c ≡ Relabel g h → x .label ≡ g → x .after ≡ h → isMet x q r ≡ isMet j q r
         → wordTriple K s q r ≡ stepTriple K c (wordTriple K w q q) (wordTriple K w q r)
     unfolding stepTriple
     relabel-fused h ec xl xa m =
-        then q r
+        reads K s ls x (sym ex) q r
         ∙ relabel-more K j x g el ea ez xz q r h xl xa m
-        ∙ ap (relabelTriple K g h) (before q r)
+        ∙ ap (relabelTriple K g h) (sym (reads K w lw j ej q r))
         ∙ ap (λ (d : Command). stepTriple K d (wordTriple K w q q) (wordTriple K w q r)) (sym ec)
 
 -- a rule's word in front of another's
@@ -105,14 +102,11 @@ module _ (K v w s : ℕ) (lv : judgesFrom K ≤ v) (lw : judgesFrom K ≤ w) (ls
   pub both-judged : (q r : ℕ) → judgeTriple K j (judgeTriple K x q q) (judgeTriple K x q r) ≡ judgeTriple K j (judgeTriple K i q q) (judgeTriple K i q r)
       → wordTriple K w (wordTriple K s q q) (wordTriple K s q r) ≡ wordTriple K w (wordTriple K v q q) (wordTriple K v q r)
   both-judged q r e =
-      ap₂ (wordTriple K w) (reads s ls x (sym ex) q q) (reads s ls x (sym ex) q r)
-      ∙ reads w lw j ej (judgeTriple K x q q) (judgeTriple K x q r)
+      ap₂ (wordTriple K w) (reads K s ls x (sym ex) q q) (reads K s ls x (sym ex) q r)
+      ∙ reads K w lw j ej (judgeTriple K x q q) (judgeTriple K x q r)
       ∙ e
-      ∙ sym (reads w lw j ej (judgeTriple K i q q) (judgeTriple K i q r))
-      ∙ ap₂ (wordTriple K w) (sym (reads v lv i ei q q)) (sym (reads v lv i ei q r))
-    where
-      reads : (t : ℕ) → judgesFrom K ≤ t → (k : Judge) → k ≡ judgeOf K t → (q r : ℕ) → wordTriple K t q r ≡ judgeTriple K k q r
-      reads t l k ek q r = by-judge K t q r l ∙ ap (λ (y : Judge). judgeTriple K y q r) (sym ek)
+      ∙ sym (reads K w lw j ej (judgeTriple K i q q) (judgeTriple K i q r))
+      ∙ ap₂ (wordTriple K w) (sym (reads K v lv i ei q q)) (sym (reads K v lv i ei q r))
 
 pub three-false : (a b c : Bool) → (a || (b || c)) ≡ false → (a ≡ false) × (b ≡ false) × (c ≡ false)
 three-false true b c e = absurd (true≢false e)

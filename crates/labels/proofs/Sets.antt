@@ -102,6 +102,10 @@ has-without n m a = step (has n a) refl
     step true e = has-sub n m a e
     step false e = here (eqb m n) refl e
 
+-- taken out, it is not in the set
+pub has-gone : (n a : ℕ) → has n (without n a) ≡ false
+has-gone n a = has-without n n a ∙ ap (λ b. has n a && not b) (eq-eqb n n refl) ∙ and-false (has n a)
+
 pub has-replace : (n k m a : ℕ) → has m (replace n k a) ≡ (eqb m k && has n a || has m a && not (eqb m n))
 unfolding replace
 has-replace n k m a = step (has n a) refl

@@ -1,12 +1,12 @@
 -- A link given again changes no table (01, "The sheet"), with other links between or none; its two halves commute (02, Item 11), as any two connects do.
 -- Assumes nothing.
 use mathlib.Core.Path.{_≡_, refl, sym, ap, ap₂, _∙_}
-use mathlib.Core.Bool.{Bool, true, false, cond, not, _&&_, and-true, and-false}
+use mathlib.Core.Bool.{Bool, true, false, cond, not, _&&_, and-true}
 use mathlib.Core.List.{List, [], _∷_, map}
 use Prim.Native.Nat.{ℕ, _+_, _*_, _-_, _^_, _<_}
 use native.Mathlib.Omega.{arith}
 use lib.Dec.{eqb}
-use borrow.Author.Tests.{eq-eqb, ne-eqb}
+use borrow.Author.Tests.{ne-eqb}
 use Rattle.lists.specs.declared.Order.{Order}
 use Rattle.lists.specs.Lists.{All}
 use Rattle.lists.specs.Sorted.{compareNumbers, second, canon, setOf}
@@ -14,7 +14,7 @@ use Rattle.lists.proofs.Members.{map-map}
 use Rattle.lists.proofs.Comparisons.{Lawful, numbers-lawful}
 use Rattle.lists.proofs.Canon.{canon-map}
 use Rattle.labels.specs.Sets.{has, without}
-use Rattle.labels.proofs.Sets.{has-without, set-ext}
+use Rattle.labels.proofs.Sets.{has-without, has-gone, set-ext}
 use Rattle.expression.specs.declared.Kind.{Kind}
 use Rattle.expression.specs.declared.Kind.the-variants.{Head, Positive, Negative}
 use Rattle.semantics.specs.Expressions.{Expr, fold, link, trees}
@@ -29,20 +29,13 @@ use Rattle.tables.proofs.Answers.{triples-lawful, pairs-lawful}
 -- two maps, in order before and after, by what they do to each element
 canon-maps : {X : Type 0} {cmp : X → X → Order} {merge : X → X → X} → Lawful cmp merge → (f g f′ g′ : X → X) → ((x : X) → g (f x) ≡ g′ (f′ x))
     → (xs : List X) → canon cmp merge (map g (canon cmp merge (map f xs))) ≡ canon cmp merge (map g′ (canon cmp merge (map f′ xs)))
-canon-maps {X} {cmp} {merge} L f g f′ g′ h xs = canon-map L L g (map f xs) ∙ ap (canon cmp merge) (each xs) ∙ sym (canon-map L L g′ (map f′ xs))
-  where
-    each : (xs : List X) → map g (map f xs) ≡ map g′ (map f′ xs)
-    each [] = refl
-    each (x ∷ xs) = ap₂ {C = List X} (λ y ys. y ∷ ys) (h x) (each xs)
+canon-maps {cmp = cmp} {merge = merge} L f g f′ g′ h xs = canon-map L L g (map f xs) ∙ ap (canon cmp merge) (map-map g f (λ x. g′ (f′ x)) h xs ∙ sym (map-map g′ f′ (λ x. g′ (f′ x)) (λ x. refl) xs)) ∙ sym (canon-map L L g′ (map f′ xs))
 
 -- ---- at once
 
 without-again : (m a : ℕ) → without m (without m a) ≡ without m a
 unfolding without
-without-again m a = ap (λ b. cond b (without m a - 2 ^ m) (without m a)) gone
-  where
-    gone : has m (without m a) ≡ false
-    gone = has-without m m a ∙ ap (λ b. has m a && not b) (eq-eqb m m refl) ∙ and-false (has m a)
+without-again m a = ap (λ b. cond b (without m a - 2 ^ m) (without m a)) (has-gone m a)
 
 -- what is settled has lost the mark m, and what is not is as it was
 cond-again : (m r : ℕ) (b c : Bool) → (b ≡ false → c ≡ false) → cond c (without m (cond b (without m r) r)) (cond b (without m r) r) ≡ cond b (without m r) r

@@ -1,13 +1,14 @@
 -- `batches::batch_row`: the subsets are made behind the first two words, which are written then.
 use mathlib.Core.Path.{_≡_}
 use mathlib.Core.List.{_∷_}
-use Prim.Native.Nat.{_+_, _-_}
+use Prim.Native.Nat.{_-_}
 use native.Mathlib.Omega.{arith}
-use lib.ListN.{length, take, getD, length-set}
+use lib.ListN.{length, take, drop, getD, length-set}
+use lib.Seq.{take-take}
 use borrow.Rule.Slice.PartMut.{putMid, same-len-mid}
 use Rattle.labels.specs.Labels.{labelCount}
 use Rattle.candidates.specs.Candidates.{pairOf}
-use Rattle.candidates.proofs.Making.{no-more}
+use Rattle.candidates.proofs.Making.{room}
 use Rattle.batches.specs.Batches.{wordsPair}
 use Rattle.batches.proofs.Gathering.{written-pair}
 use borrow.Author.Needs.{needs}
@@ -39,9 +40,6 @@ part-batch-subsets-start c = search needs
 part-batch-subsets-end : tie.Need-part-batch-subsets-end
 part-batch-subsets-end c = search needs
 
-add-batch-subsets : tie.Need-add-batch-subsets
-add-batch-subsets c = search needs
-
 sub-batch-subsets-2 : tie.Need-sub-batch-subsets-2
 sub-batch-subsets-2 c = search needs
 
@@ -72,15 +70,14 @@ same-length c = search needs
 made : (c : tie.After-batch-subsets) → c .batch-subsets .result .own ∷ take (c .batch-subsets .result .count) (c .batch-subsets .last .0) ≡ wordsPair labelCount (start c .args .code .now) (pairOf (start c .args .src .now))
 unfolding pairOf
 made c =
-    let n : 2 + getD (start c .args .src .now) 1 0 - 2 ≡ getD (start c .args .src .now) 1 0 = omega arith in
-    rw n at (c .batch-subsets .ensures .1)
+    rw (take-take (getD (start c .args .src .now) 1 0) (length (start c .args .src .now) - 2) (drop 2 (start c .args .src .now)) (omega (arith, start c .pre))) at (c .batch-subsets .ensures .1)
 
 returns : tie.Need-returns
 returns c =
     let u = c .before .before .before in
     let s = start u in
     let few = u .batch-subsets .ensures .0 in
-    written-pair (s .args .row .now) (u .batch-subsets .last .0) _ _ _ (omega (arith, s .pre)) (u .batch-subsets .kept .0) (omega (arith, few, no-more (s .args .src .now) (s .args .row .now) (2 + getD (s .args .src .now) 1 0 - 2) (s .pre .1 .0), u .batch-subsets .kept .0)) (made u)
+    written-pair (s .args .row .now) (u .batch-subsets .last .0) _ _ _ (omega (arith, s .pre)) (u .batch-subsets .kept .0) (omega (arith, few, s .pre, room (s .args .row .now), u .batch-subsets .kept .0)) (made u)
 
 pub batch-row-spec : {M : Type 1} → statement M
 batch-row-spec =
@@ -92,7 +89,6 @@ batch-row-spec =
     sub-batch-subsets
     part-batch-subsets-start
     part-batch-subsets-end
-    add-batch-subsets
     sub-batch-subsets-2
     part-batch-subsets-start-2
     part-batch-subsets-end-2
