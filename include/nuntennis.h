@@ -176,7 +176,7 @@
  *
  * STACK
  *
- * tests/test_stack.c measures what a call uses: nuntennis_grounded 97,328 bytes, any other under 23,700. NUNTENNIS_STACK_BYTES is for the
+ * tests/test_stack.c measures what a call uses: nuntennis_grounded 97,344 bytes, any other under 23,700. NUNTENNIS_STACK_BYTES is for the
  * call alone. A thread's stack holds more: the C library's data of the thread with its thread-local storage (4,464 bytes in that test, by
  * glibc 2.36; more in a host that has more), the host's own frames above the call, those of a signal handler, and the guard where it is
  * taken from the same size. So a thread of just NUNTENNIS_STACK_BYTES is too small: it overflowed when tried. Give a thread that makes
