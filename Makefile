@@ -5,8 +5,8 @@ RT_JOBS ?= 6
 export RT_JOBS
 
 # The gate: every crate proved from nothing, every must-fail edit refused, every program run; then the C tests over what was proved.
-# Two at a time took 28 min 52 s and 46 min of processor time, six 29 min 51 s and 53 min.
-test: RT_JOBS = 2
+# `rt must-fail checks` (39 edits) took 141 s two at a time, 129 s three, 128 s four; the gate once took 28 min 52 s two at a time and 29 min 51 s six.
+test: RT_JOBS = 3
 test:
 	@scripts/gate
 
