@@ -5,7 +5,7 @@ RT_JOBS ?= 6
 export RT_JOBS
 
 # The gate: every crate proved from nothing, every must-fail edit refused, every program run; then the C tests over what was proved.
-# `rt must-fail checks` (39 edits) took 141 s two at a time, 129 s three, 128 s four; the gate once took 28 min 52 s two at a time and 29 min 51 s six.
+# Three edits at a time took 27 min 38 s, two 29 min 58 s, both 48 to 49 min of processor time.
 test: RT_JOBS = 3
 test:
 	@scripts/gate
