@@ -253,7 +253,7 @@ fn step_all(run: &mut [u32], q: u32, code: &[u64]) -> u32
     own
 }
 
-// How many triples the vectors of a loop over them have.
+// By timing: the loops over triples run in vectors, and blocks of four were slower.
 const BLOCK: usize = 8;
 
 // n in whole blocks where there is room for them, else n.
