@@ -1,4 +1,6 @@
 // A command on the tables of a workspace, with their counts.
+#![tactic(auto)]
+
 ghost use Rattle.std.specs.Prelude.{◌≡◌, [], ℕ, ◌+◌, ◌-◌, ◌≤◌, ◌<◌, length};
 ghost use Rattle.labels.specs.Labels.{label_count};
 ghost use Rattle.expression.specs.Commands.{Suits};

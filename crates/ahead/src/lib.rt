@@ -1,4 +1,6 @@
 // The commands ahead in an expression that may be done at once, done on the newest table of a workspace.
+#![tactic(auto)]
+
 ghost use Rattle.std.specs.Prelude.{◌≡◌, List, ℕ, ◌≤◌, length};
 ghost use Rattle.semantics.specs.Expressions.{change_newest};
 ghost use Rattle.batches.specs.Batches.{batch_limit, commands_of};

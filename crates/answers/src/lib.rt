@@ -1,4 +1,6 @@
 // The answer that a table of rows gives: whether a row accepts, the least value of those that do, and the interpretation that has such a value.
+#![tactic(auto)]
+
 ghost use Rattle.std.specs.Prelude.{◌≡◌, ◌+◌, ◌*◌, ◌≤◌, length};
 ghost use Rattle.lists.specs.Lists.{some};
 ghost use Rattle.labels.specs.Labels.{label_count};
@@ -47,7 +49,7 @@ pub fn accepts_row(row: &[u32]) -> bool
 }
 
 // The least value of the rows that accept, where there is one.
-#[derive(Drop)]
+#[derive(Clone, Copy)]
 pub enum Found {
     None,
     Least(u64),

@@ -1,4 +1,6 @@
 // Areas of rows in lent words: cleared, and a table written out in order over another.
+#![tactic(auto)]
+
 ghost use Rattle.std.specs.Prelude.{◌≡◌, ◌++◌, ◌*◌, ◌≤◌, max, length, take, drop};
 ghost use Rattle.rows.specs.Parts.{part, put, zeros, Apart};
 ghost use Rattle.rows.specs.Rows.{sorted_of, Indexed, table_of, rows_in, Rows};

@@ -1,5 +1,7 @@
 // Several commands on one row: relabels, connects and unions with a rule, one after the other on each triple; the subsets are put in order once. A word
 // stands for a command, or for a rule with the connects and the relabel behind it.
+#![tactic(auto)]
+
 ghost use Rattle.std.specs.Prelude.{◌≡◌, cond, ◌∷◌, map, ◌+◌, ◌*◌, ◌≤◌, ◌<◌, length, take, get_or};
 ghost use Rattle.std.specs.Int.Bits.{bit_or};
 ghost use Rattle.labels.specs.Labels.{label_count};
@@ -38,7 +40,7 @@ pub const JUDGES: u64 = SETS * AFTERS;
 
 // A rule with atoms put into it, judged at once: the marks of a triple that meet it, the labels of negative atoms, which meet it by the interpretation's
 // own T; its label, and the one it is given then. Where `leaves` is 1 what has its label is left to a later word.
-#[derive(Drop)]
+#[derive(Clone, Copy)]
 pub struct Judge {
     pub marks: u32,
     pub negative: u32,
@@ -48,7 +50,7 @@ pub struct Judge {
 }
 
 // What words leave of a row: its own triple, and how many subsets there are.
-#[derive(Drop)]
+#[derive(Clone, Copy)]
 pub struct Left {
     pub own: u32,
     pub count: usize,

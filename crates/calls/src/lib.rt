@@ -1,4 +1,6 @@
 // The grounded decision, as the definitions say it. It has no `requires`.
+#![tactic(auto)]
+
 ghost use Rattle.std.specs.Prelude.{◌≡◌, length};
 ghost use Rattle.labels.specs.Labels.{label_count};
 ghost use Rattle.decisions.specs.Outcomes.{grounded_outcome, GroundedRight};

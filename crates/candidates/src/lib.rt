@@ -1,4 +1,6 @@
 // What a command makes of a triple, and of two rows in a lent row of words.
+#![tactic(auto)]
+
 ghost use Rattle.std.specs.Prelude.{◌≡◌, cond, ◌∷◌, ◌+◌, ◌≤◌, ◌<◌, length};
 ghost use Rattle.labels.specs.Labels.{label_count};
 ghost use Rattle.expression.specs.Commands.{Suits};

@@ -4,7 +4,7 @@ ghost use Rattle.expression.specs.Limits.{depth_limit, table_limit};
 ghost use Rattle.checks.specs.Frames.{frame_of};
 
 // How many areas, the last one scratch; the words of a row, the rows of an area, and the words of all areas.
-#[derive(Drop)]
+#[derive(Clone, Copy)]
 pub struct Frame {
     pub areas: usize,
     pub width: usize,

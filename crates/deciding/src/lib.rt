@@ -1,4 +1,6 @@
 // A decision in one walk, in arrays that are lent: whether the last table has an entry that accepts, and the least value of those.
+#![tactic(auto)]
+
 ghost use Rattle.std.specs.Prelude.{◌≡◌, ◌*◌, ◌≤◌, length};
 ghost use Rattle.expression.specs.Limits.{depth_limit, area_count};
 ghost use Rattle.semantics.specs.AnswerSets.{by_masks};

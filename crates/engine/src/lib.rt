@@ -1,4 +1,6 @@
 // The decisions: whether some answer set, or some model, obeys the assumptions.
+#![tactic(auto)]
+
 ghost use Rattle.std.specs.Prelude.{◌≡◌, ◌*◌, ◌≤◌, length};
 ghost use Rattle.expression.specs.Limits.{atom_limit, depth_limit, area_count};
 ghost use Rattle.semantics.specs.AnswerSets.{by_masks};

@@ -1,4 +1,6 @@
 // Rows with values carried beside them in 64-bit words: merged where equal rows meet, moved along with the rows.
+#![tactic(auto)]
+
 ghost use Rattle.std.specs.Prelude.{◌≡◌, ◌+◌, ◌^◌, ◌<◌, ◌≤◌, min, ◌∷◌, ◌++◌, length, take, drop, slice_index_or};
 ghost use Rattle.candidates.specs.Candidates.{pair_of, Readable};
 ghost use Rattle.rows.specs.Rows.{Indexed};
@@ -10,7 +12,7 @@ use rows::Placed;
 use values::Value;
 
 // What the words beside the rows keep: none, one word a row, two words a row.
-#[derive(Drop)]
+#[derive(Clone, Copy)]
 pub enum Carry {
     Nothing,
     First,

@@ -1,4 +1,6 @@
 // Whether words have the form that the rows of a running record's tables must have (01: 18).
+#![tactic(auto)]
+
 ghost use Rattle.std.specs.Prelude.{◌≡◌, true, false, ◌&&◌, ◌*◌, ◌^◌, ◌≤◌, ltb, length};
 ghost use Rattle.lists.specs.Lists.{every};
 ghost use Rattle.lists.specs.Sorted.{by_order, compare_numbers, compare_lists};

@@ -1,5 +1,7 @@
 // Words for commands: a rule, the connects that put atoms into it and the relabel behind them become one word, so that a row is gone through once for
 // all of them.
+#![tactic(auto)]
+
 ghost use Rattle.std.specs.Prelude.{◌≡◌, true, ◌||◌, List, ℕ, ◌+◌, ◌*◌, ◌≤◌, ◌<◌, length, take};
 ghost use Rattle.labels.specs.Labels.{label_count};
 ghost use Rattle.labels.specs.Sets.{has, Within};

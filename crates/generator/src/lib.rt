@@ -1,5 +1,7 @@
 // Pseudo-random sheets, limits, pins and rooms, small enough for the oracle: at most 6 atoms and 6 rules where a sheet is valid. Names of any bytes stand
 // between commands.
+#![tactic(auto)]
+
 ghost use Rattle.std.specs.Prelude.{◌≡◌, ◌+◌, ◌*◌, ◌<◌, ◌≤◌, length, take};
 
 // labels::LABELS at the width of what is drawn.

@@ -1,4 +1,6 @@
 // The answers of the calls for a host in words.
+#![tactic(auto)]
+
 ghost use Rattle.std.specs.Prelude.{◌≡◌, ◌∷◌, ◌≤◌, length, drop};
 ghost use Rattle.host_words.specs.Answers.{answer_words, answer_of};
 ghost use Rattle.host_words.specs.Reported.{report_words_of};

@@ -1,4 +1,6 @@
 // A table that is made row by row behind an index: a row found, a row put in.
+#![tactic(auto)]
+
 ghost use Rattle.std.specs.Prelude.{◌≡◌, ℕ, ◌≤◌, length};
 ghost use Rattle.lists.specs.Sorted.{compare_lists, rank};
 ghost use Rattle.candidates.specs.Candidates.{pair_of, Readable};

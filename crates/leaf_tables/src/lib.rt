@@ -1,4 +1,6 @@
 // The tables of the leaves of an expression: of an atom under assumptions, and of a rule.
+#![tactic(auto)]
+
 ghost use Rattle.std.specs.Prelude.{◌≡◌, cond, [], ◌∷◌, ◌+◌, ◌*◌, ◌≤◌, ◌<◌, length};
 ghost use Rattle.labels.specs.Labels.{label_count};
 ghost use Rattle.candidates.specs.Candidates.{Readable};

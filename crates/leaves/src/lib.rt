@@ -1,4 +1,6 @@
 // The leaves of an expression: the next atom, resolved under assumptions, and the rows of an atom that is in or out, and of a rule.
+#![tactic(auto)]
+
 ghost use Rattle.std.specs.Prelude.{◌≡◌, [], ◌∷◌, ℕ, ◌^◌, ◌≤◌, ◌<◌, length};
 ghost use Rattle.labels.specs.Labels.{label_count};
 ghost use Rattle.labels.specs.Sets.{has};
@@ -16,14 +18,14 @@ use expression::{NewAtom, Role};
 use values::Value;
 
 // Which tables are made: Definition 5's, kept as pairs without subsets, or Definition 8's.
-#[derive(Drop)]
+#[derive(Clone, Copy)]
 pub enum Tables {
     Plain,
     Pairs,
 }
 
 // The next atom, resolved: whether it may be in and may be out under the assumptions, and its value in and out. Its label and role stand in the command.
-#[derive(Drop)]
+#[derive(Clone, Copy)]
 pub struct Atom {
     pub may_be_in: bool,
     pub may_be_out: bool,

@@ -1,5 +1,7 @@
 // Reads a sheet from standard input and prints both decisions, then the table after the last command (01, Listing). Both limits are 32, and nothing
 // is assumed.
+#![tactic(auto)]
+
 ghost use Rattle.std.specs.Prelude.{◌≡◌, false, ◌++◌, ◌≤◌, ◌<◌, length, drop};
 ghost use Rattle.labels.specs.Labels.{label_count};
 ghost use Rattle.expression.specs.Limits.{area_words};

@@ -1,4 +1,6 @@
 // The marks that the triples of a table have: what a link could touch is found once for all rows.
+#![tactic(auto)]
+
 ghost use Rattle.std.specs.Prelude.{◌+◌, ◌*◌, ◌≤◌, length};
 ghost use Rattle.lists.specs.Lists.{All};
 ghost use Rattle.labels.specs.Sets.{Within};

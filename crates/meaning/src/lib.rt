@@ -1,5 +1,7 @@
 // Whether a rule is met, a plan is smaller than another, and pins are obeyed, word for word as 01 and 02 (Item 9) say it: what the oracle's answers
 // rest on.
+#![tactic(auto)]
+
 ghost use Rattle.std.specs.Prelude.{◌≡◌};
 ghost use Rattle.meaning.specs.Meaning.{is_met, is_smaller, obeys_pins};
 

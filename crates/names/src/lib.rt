@@ -1,4 +1,6 @@
 // What an atom is called (02, Item 1). The definitions are in the crate `expression`. No public function has a `requires`.
+#![tactic(auto)]
+
 ghost use Rattle.std.specs.Prelude.{◌≡◌};
 ghost use Rattle.labels.specs.Labels.{label_count};
 ghost use Rattle.expression.specs.Names.{is_atom, newest_by, called_by, called_in, name_of, bytes_named, naming_outcome};

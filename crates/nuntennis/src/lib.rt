@@ -1,4 +1,6 @@
 // The calls for a host in C, under the names and in the order of include/nuntennis.h. None has a `requires`.
+#![tactic(auto)]
+
 ghost use Rattle.std.specs.Prelude.{◌≡◌, length};
 ghost use Rattle.labels.specs.Labels.{label_count};
 ghost use Rattle.expression.specs.Checks.{depth_outcome};

@@ -1,4 +1,6 @@
 // The union of the two newest tables of a workspace.
+#![tactic(auto)]
+
 ghost use Rattle.std.specs.Prelude.{◌≡◌, ◌+◌, ◌≤◌, length};
 ghost use Rattle.expression.specs.Limits.{depth_limit, area_count};
 ghost use Rattle.semantics.specs.Expressions.{unite_newest};

@@ -1,4 +1,6 @@
 // One command on the tables of a workspace.
+#![tactic(auto)]
+
 ghost use Rattle.std.specs.Prelude.{◌≡◌, [], ◌∷◌, ℕ, ◌+◌, ◌-◌, ◌*◌, ◌≤◌, ◌<◌, length};
 ghost use Rattle.labels.specs.Labels.{label_count};
 ghost use Rattle.expression.specs.Commands.{Suits};

@@ -2,13 +2,15 @@
 // against; slow and simple. It shares with the engine the limits' and refusals' numbers and no function or definition of tables. What a rule, a
 // smaller plan and pins mean is proved (crate meaning); all else here is proved to stay within bounds and to end, and is right as far as it is tried
 // (crate trials).
+#![tactic(auto)]
+
 pub mod answering;
 pub mod checking;
 pub mod naming;
 
 // What a decision or a report answers: the value of a yes is the mask shown (plainly 0); a report has the kind YES, its number of entries for a value,
 // and in place of a place its number of words.
-#[derive(Drop)]
+#[derive(Clone, Copy)]
 pub struct Answer {
     pub kind: u64,
     pub value: u64,

@@ -1,9 +1,11 @@
 // The table of a policy by enumeration, from the meaning of the rules alone: for the oracle.
+#![tactic(auto)]
+
 pub mod tabulating;
 pub mod triples;
 
 // The arguments of a decision or a report beside the sheet.
-#[derive(Drop)]
+#[derive(Clone, Copy)]
 pub struct Request {
     // P and G of 01
     pub pair_limit: u64,

@@ -1,4 +1,6 @@
 // The three words that a host gets of an outcome (01, "One command a call"). The definitions are in the crate `expression`.
+#![tactic(auto)]
+
 ghost use Rattle.std.specs.Prelude.{◌≡◌};
 ghost use Rattle.expression.specs.Outcomes.{kind_of, value_of, place_of};
 

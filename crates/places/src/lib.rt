@@ -1,4 +1,6 @@
 // Where commands start (01: 14 and 18). The definitions are in the crate `expression`.
+#![tactic(auto)]
+
 ghost use Rattle.std.specs.Prelude.{◌≡◌};
 ghost use Rattle.labels.specs.Labels.{label_count};
 ghost use Rattle.expression.specs.Places.{locate};

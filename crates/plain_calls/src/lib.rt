@@ -1,4 +1,6 @@
 // The plain decision, as the definitions say it. It has no `requires`.
+#![tactic(auto)]
+
 ghost use Rattle.std.specs.Prelude.{◌≡◌, length};
 ghost use Rattle.labels.specs.Labels.{label_count};
 ghost use Rattle.decisions.specs.Outcomes.{plain_outcome, PlainRight};

@@ -1,12 +1,14 @@
 // What the commands of a sheet build (01, "The sheet"; 02, Items 9 and 11), from the documents alone: what the oracle enumerates. Proved to stay within
 // bounds and to end; right as far as it is tried.
+#![tactic(auto)]
+
 pub mod building;
 pub mod sets;
 
 use crate::sets::{Sets, no_sets};
 
 // Atoms (01: copies), or rules. The first eight are kept, the others counted.
-#[derive(Drop)]
+#[derive(Clone, Copy)]
 pub struct Members {
     pub count: u64,
     // for each label (01: group) and for each operand (01: part) the set of its members; see the module sets
@@ -15,7 +17,7 @@ pub struct Members {
 }
 
 // What the commands so far built. An operand's number is the depth at which it stands on the stack: the newest is number `depth`.
-#[derive(Drop)]
+#[derive(Clone, Copy)]
 pub struct Policy {
     // where the next command starts
     pub at: usize,

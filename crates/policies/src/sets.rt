@@ -3,7 +3,7 @@
 // labels::LABELS at the width of a word.
 const LABELS: u64 = labels::LABELS as u64;
 
-#[derive(Drop)]
+#[derive(Clone, Copy)]
 pub struct Sets {
     pub low: u64,
     pub high: u64,

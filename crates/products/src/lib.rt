@@ -1,4 +1,6 @@
 // The unions of two runs' numbers: gathered in any order through a filter, and put in order once.
+#![tactic(auto)]
+
 ghost use Rattle.std.specs.Prelude.{◌++◌, map, ◌+◌, ◌≤◌, ◌<◌, length, take};
 ghost use Rattle.std.specs.Int.Bits.{bit_or};
 ghost use Rattle.lists.specs.Lists.{products};

@@ -1,4 +1,6 @@
 // A sheet command by command: the oracle's reading, which shares with the engine's only the numbers of limits, labels and refusals.
+#![tactic(auto)]
+
 ghost use Rattle.std.specs.Prelude.{◌+◌, ◌<◌, ◌≤◌, length};
 
 use expression::refusals::{CUT, GROUP, SAME, UNKNOWN};

@@ -1,4 +1,6 @@
 // Whether a running record has the form asked for (01: 18), and what stands before its place.
+#![tactic(auto)]
+
 ghost use Rattle.std.specs.Prelude.{◌≡◌, ◌&&◌, ℕ, ◌+◌, ◌*◌, ◌≤◌, length, take, drop};
 ghost use Rattle.labels.specs.Labels.{label_count};
 ghost use Rattle.expression.specs.declared.Counts.{Counts};

@@ -1,7 +1,9 @@
 // A running record, and what a step answers (01, "One command a call").
 // The place of the next command, how many tables there are, and how many pairs each has, the oldest first.
+#![tactic(auto)]
+
 #[repr(C)]
-#[derive(Drop)]
+#[derive(Clone, Copy)]
 pub struct Record {
     pub place: usize,
     pub tables: usize,
@@ -9,7 +11,7 @@ pub struct Record {
 }
 
 // A command was done; the end was reached before; or a refusal with its number and place.
-#[derive(Drop)]
+#[derive(Clone, Copy)]
 pub enum Progress {
     Moved,
     Ended,
@@ -17,7 +19,7 @@ pub enum Progress {
 }
 
 // The record after a call, and what is answered.
-#[derive(Drop)]
+#[derive(Clone, Copy)]
 pub struct Stepped {
     pub state: Record,
     pub progress: Progress,

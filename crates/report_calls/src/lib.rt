@@ -1,4 +1,6 @@
 // The reports of the library, as the definitions say them. None has a `requires`.
+#![tactic(auto)]
+
 ghost use Rattle.std.specs.Prelude.{◌≡◌, length};
 ghost use Rattle.labels.specs.Labels.{label_count};
 ghost use Rattle.tables.specs.Definitions.{pairs, triples};

@@ -1,4 +1,6 @@
 // The newest table, written into a buffer where it fits.
+#![tactic(auto)]
+
 ghost use Rattle.std.specs.Prelude.{◌≡◌, List, ℕ, ◌≤◌, length};
 ghost use Rattle.entries.specs.declared.Carry.TheVariants.{Nothing};
 ghost use Rattle.entries.specs.Carries.{Entry};
@@ -12,7 +14,7 @@ use expression::refusals::REPORT_SHORT;
 use leaves::Tables;
 
 // How many entries and words were written; or a refusal with its number and place.
-#[derive(Drop)]
+#[derive(Clone, Copy)]
 pub enum Report {
     Written(u64, u64),
     Refused(u64, usize),

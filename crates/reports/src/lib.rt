@@ -1,4 +1,6 @@
 // The report of a table: its entries, written one after the other.
+#![tactic(auto)]
+
 ghost use Rattle.std.specs.Prelude.{◌≡◌, ◌++◌, ◌+◌, ◌*◌, ◌≤◌, length, drop};
 ghost use Rattle.rows.specs.Parts.{part};
 ghost use Rattle.rows.specs.Rows.{Rows, rows_in};

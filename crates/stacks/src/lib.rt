@@ -1,4 +1,6 @@
 // The counts of a stack of tables beside its workspace, and a workspace cleared.
+#![tactic(auto)]
+
 ghost use Rattle.std.specs.Prelude.{◌≡◌, List, [], ◌++◌, ℕ, ◌≤◌, length, drop};
 ghost use Rattle.tables.specs.Definitions.{Pair};
 ghost use Rattle.rows.specs.Parts.{zeros};

@@ -1,4 +1,6 @@
 // Starting a walk of one command a call, with the running record by value, and what a refused check answers. No public function has a `requires`.
+#![tactic(auto)]
+
 ghost use Rattle.std.specs.Prelude.{◌≡◌, length};
 ghost use Rattle.labels.specs.Labels.{label_count};
 ghost use Rattle.checks.specs.Requests.{request};

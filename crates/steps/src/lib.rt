@@ -1,4 +1,6 @@
 // One command a call, with the running record by value, as the definitions say it. No public function has a `requires`.
+#![tactic(auto)]
+
 ghost use Rattle.std.specs.Prelude.{◌≡◌, length};
 ghost use Rattle.labels.specs.Labels.{label_count};
 ghost use Rattle.expression.specs.declared.Checked.TheVariants.{Passed};

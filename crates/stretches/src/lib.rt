@@ -1,4 +1,6 @@
 // Commands that may be done at once on the newest table, read from an expression: relabels, connects, and a rule with the union behind it.
+#![tactic(auto)]
+
 ghost use Rattle.std.specs.Prelude.{◌≡◌, ℕ, ◌≤◌, length, take};
 ghost use Rattle.labels.specs.Labels.{label_count};
 ghost use Rattle.expression.specs.declared.Read.TheVariants.{Command as Got};
@@ -14,14 +16,14 @@ use expression::{Command, Counts, Effect, Leaf, Read};
 use reader::read_next;
 
 // Such a command, and the offset after it; or another one.
-#[derive(Drop)]
+#[derive(Clone, Copy)]
 pub enum Joined {
     By(Command, usize),
     Other,
 }
 
 // How far such commands go, how many they are, and the counts after them.
-#[derive(Drop)]
+#[derive(Clone, Copy)]
 pub struct Stretch {
     pub next: usize,
     pub count: usize,

@@ -1,4 +1,6 @@
 // Whether words have the form that a running record's tables must have (01: 18). Every word is looked at once, and a row once more in its order.
+#![tactic(auto)]
+
 ghost use Rattle.std.specs.Prelude.{◌≡◌, ◌*◌, ◌≤◌, length};
 ghost use Rattle.labels.specs.Labels.{label_count};
 ghost use Rattle.forms.specs.Forms.{is_table, are_tables};

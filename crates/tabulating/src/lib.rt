@@ -1,4 +1,6 @@
 // The table after the command asked, written into a buffer, in arrays made here.
+#![tactic(auto)]
+
 ghost use Rattle.std.specs.Prelude.{◌≡◌, ◌+◌, ◌*◌, ◌≤◌, ◌<◌, length};
 ghost use Rattle.expression.specs.Limits.{depth_limit, area_count};
 ghost use Rattle.semantics.specs.AnswerSets.{by_masks};

@@ -1,4 +1,6 @@
 // How often each answer was given, counted and printed: for programs that hold the engine against the oracle.
+#![tactic(auto)]
+
 ghost use Rattle.std.specs.Prelude.{◌≤◌};
 
 use libc::STDOUT_FILENO;

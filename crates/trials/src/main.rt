@@ -1,6 +1,8 @@
 // The sheets to try of 01, the readings that its order of checks asks for, and sheets with granted copies (02, Item 9) and with links either way (02,
 // Item 11), by the solver that the engine is tested against. The list is read from standard input; it says how a trial is written. Prints each trial that
 // disagrees with what is listed, and how many agree.
+#![tactic(auto)]
+
 ghost use Rattle.std.specs.Prelude.{◌≡◌, ◌+◌, ◌/◌, ◌<◌, ◌≤◌, length, take};
 
 use libc::{STDIN_FILENO, STDOUT_FILENO};

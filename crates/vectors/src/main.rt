@@ -1,6 +1,8 @@
 // The engine held against the oracle: the sheets to try of 01 that are not starred, names, links, sheets with too many bytes, atoms or rules, then
 // pseudo-random sheets, each by one of the four calls, and the name of every copy. Compared are the outcome, which plan is shown, every word of a report
 // and every word of workspace and buffer afterwards. Prints the first disagreement, if any, and how often each outcome was agreed on.
+#![tactic(auto)]
+
 ghost use Rattle.std.specs.Prelude.{◌≤◌};
 
 use calls::grounded;

@@ -1,4 +1,6 @@
 // The verdict with the running record by value, by an equation with the definition.
+#![tactic(auto)]
+
 ghost use Rattle.std.specs.Prelude.{◌≡◌, ℕ, length};
 ghost use Rattle.labels.specs.Labels.{label_count};
 ghost use Rattle.expression.specs.declared.Counts.{Counts};

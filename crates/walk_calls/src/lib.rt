@@ -1,4 +1,6 @@
 // The calls of the walk for a host: the running record by value, the answer in words. None has a `requires`.
+#![tactic(auto)]
+
 ghost use Rattle.std.specs.Prelude.{◌≡◌, length};
 ghost use Rattle.labels.specs.Labels.{label_count};
 ghost use Rattle.checks.specs.Requests.{request};
@@ -10,7 +12,7 @@ use host_words::{ANSWER_WORDS, write_answer, write_progress};
 use records::Record;
 
 // The record after a call, and the number that the call returns.
-#[derive(Drop)]
+#[derive(Clone, Copy)]
 pub struct Told {
     pub state: Record,
     pub returned: u64,

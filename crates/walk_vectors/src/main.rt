@@ -1,6 +1,8 @@
 // Walks by calls held against the oracle (01, "One command a call"): pseudo-random sheets with limits and pins, started and stepped to the end or to 15
 // or 16. Compared after each call are the answer, the record and every word of the workspace, which is made of the oracle's tables. Before each step and
 // at the end, step and verdict refuse a record and a workspace that are damaged. Prints the first disagreement, if any, and how often each end was agreed on.
+#![tactic(auto)]
+
 ghost use Rattle.std.specs.Prelude.{◌≤◌};
 
 use expression::Outcome;
@@ -415,7 +417,7 @@ fn said(is_agreed: bool, number: u64, disagreement: u64) -> u64 {
     disagreement
 }
 
-#[derive(Drop)]
+#[derive(Clone, Copy)]
 struct Turned {
     state: Record,
     // 0 where the walk goes on

@@ -1,4 +1,6 @@
 // The commands of an expression on the tables of a workspace, one after the other.
+#![tactic(auto)]
+
 ghost use Rattle.std.specs.Prelude.{◌≡◌, List, [], ℕ, ◌≤◌, length};
 ghost use Rattle.semantics.specs.AnswerSets.{by_masks};
 ghost use Rattle.batches.specs.Batches.{batch_limit};
@@ -15,7 +17,7 @@ use leaves::{Tables, atom_at};
 use reader::read_next;
 
 // A command whose table exceeds a limit, with the refusal's number, its place and how many tables stand; or how many stand after all commands.
-#[derive(Drop)]
+#[derive(Clone, Copy)]
 pub enum Reached {
     Stopped(u64, usize, usize),
     Through(usize),

@@ -1,4 +1,6 @@
 // The values of a table that was made, put beside those of the other tables.
+#![tactic(auto)]
+
 ghost use Rattle.std.specs.Prelude.{◌≡◌, ◌+◌, ◌≤◌, ◌<◌, length};
 ghost use Rattle.workspace.specs.Workspace.{values_from, moved_to, placed};
 
