@@ -3,7 +3,7 @@
 
 ghost use Rattle.std.specs.Prelude.{◌≤◌};
 
-use libc::STDOUT_FILENO;
+use std::io;
 
 // Answers count modulo 64.
 pub fn count(counts: &mut [u64; 64], answer: u64) {
@@ -11,23 +11,23 @@ pub fn count(counts: &mut [u64; 64], answer: u64) {
     counts[k] = counts[k] % 4294967296 + 1;
 }
 
-pub fn print_number(x: u64) {
-    io::print_decimal(STDOUT_FILENO, x);
-    io::write_all(STDOUT_FILENO, b" ");
+pub fn print_number(rt: &impl Print, x: u64) -> io::Result<()> {
+    print!(rt; "{x} ")
 }
 
-pub fn print_counts(counts: &[u64; 64], from: usize, end: usize)
+pub fn print_counts(rt: &impl Print, counts: &[u64; 64], from: usize, end: usize) -> io::Result<()>
     requires { end ≤ 64 }
 {
     let mut k = from;
     while k < end {
-        print_number(counts[k]);
+        print_number(rt, counts[k])?;
         k += 1;
     }
+    Ok(())
 }
 
-pub fn print_disagreement(seed: u64, answer: u64) {
-    print_number(seed);
-    print_number(answer);
-    io::write_all(STDOUT_FILENO, b"disagrees\n");
+pub fn print_disagreement(rt: &impl Print, seed: u64, answer: u64) -> io::Result<()> {
+    print_number(rt, seed)?;
+    print_number(rt, answer)?;
+    println!(rt; "disagrees")
 }
