@@ -72,6 +72,7 @@ module _ (K w i j : ℕ) (ei : i ≡ label_in K (w / 2 ^ K)) (ej : j ≡ label_i
 
 -- every label is below the number of sets, so it is a digit
 pub digit-fits : (K g : ℕ) → g < K → g < 2 ^ K
+digit-fits zero g l = elim l [ ]
 digit-fits (suc K) zero l = pow_pos (suc K)
 digit-fits (suc K) (suc g) l = let h = digit-fits K g (le_of_suc-le-suc l) in omega (arith, h, pow-suc 2 K)
 

@@ -1,0 +1,19 @@
+-- `names::name_bytes`: the part that the name is, or none. Assumes nothing.
+use mathlib.Core.Path.{sym, ◌∙◌}
+use Prim.Native.Nat.{◌+◌, ◌-◌, ◌≤◌}
+use native.Mathlib.Omega.{arith}
+use lib.ListN.{length}
+use Rattle.labels.specs.Labels.{label_count}
+use Rattle.expression.specs.Limits.{name_length}
+use Rattle.names.proofs.Calling.{named-within}
+use Rattle.names.proofs.name_bytes.Goals as goal
+
+pub overflow_add-result : goal.overflow_add-result
+overflow_add-result c =
+    let within : c.in-Named.at + name_length ≤ length c.args.s.now = named-within label_count _ _ _ (sym c.name-r.ensures ∙ c.in-Named.is) in
+    omega (arith, within)
+
+pub slice_bounds-result-end : goal.slice_bounds-result-end
+slice_bounds-result-end c =
+    let within : c.in-Named.at + name_length ≤ length c.args.s.now = named-within label_count _ _ _ (sym c.name-r.ensures ∙ c.in-Named.is) in
+    omega (arith, within)
