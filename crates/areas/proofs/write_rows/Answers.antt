@@ -79,11 +79,11 @@ loop-i-preserved c =
     let i = c.loop-i.i in
     let e : c.args.to + i * w + w - (c.args.to + i * w) ≡ w = omega arith in
     let d : c.args.from + at * w + w - (c.args.from + at * w) ≡ w = omega arith in
-    let x : pair_of c.load_row.new.0 ≡ get_or (sorted_of w c.args.m (part c.args.from (c.args.p * w) c.args.ws.now) c.args.index.now) i [] =
+    let x : pair_of c.load_row.new.row ≡ get_or (sorted_of w c.args.m (part c.args.from (c.args.p * w) c.args.ws.now) c.args.index.now) i [] =
     (rw (d, source) at c.load_row.ensures.1) ∙ sym (sorted-at c.requires.indexed i c.loop-i-test.true) in
     let y : c.store_row.new.part ≡ row_of w (get_or (sorted_of w c.args.m (part c.args.from (c.args.p * w) c.args.ws.now) c.args.index.now) i []) = rw (e, row-long target, x) at c.store_row.ensures in (
       omega arith,
-      c.load_row.auto.0 ∙ c.loop-i.invariant.1,
+      c.load_row.auto.row ∙ c.loop-i.invariant.1,
       same_len_mid (c.args.to + i * w) (c.args.to + i * w + w - (c.args.to + i * w)) c.loop-i.ws c.store_row.new.part c.store_row.auto.part ∙ c.loop-i.invariant.2,
       rw (e, y) (written-more c.args.w c.args.p c.args.m c.args.n c.args.to c.args.from c.args.ws.now c.args.index.now c.requires.apart c.requires.le_w.0 c.requires.rows c.requires.indexed i c.loop-i.ws c.loop-i-test.true c.loop-i.invariant.3),
     )
