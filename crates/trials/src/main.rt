@@ -3,12 +3,13 @@
 // disagrees with what is listed, and how many agree.
 #![tactic(auto)]
 
-ghost use Rattle.std.specs.Prelude.{◌≡◌, ◌+◌, ◌/◌, ◌<◌, ◌≤◌, length, take};
+ghost use Rattle.std.specs.Prelude.{◌≡◌, ◌+◌, ◌/◌, ◌<◌, ◌≤◌, length, take, IfOk};
 
-use libc::{STDIN_FILENO, STDOUT_FILENO};
 use oracle::Answer;
 use oracle::answering::answer;
 use oracle_tables::Request;
+use std::io;
+use std::io::Read;
 
 // ---- the list: pairs of hexadecimal digits; a line that starts with # says what follows
 
@@ -136,64 +137,81 @@ fn is_listed(a: Answer, list: &[u8], at: usize) -> bool
 }
 
 // 1 where the trial agrees, with a sheet of n bytes; else it is printed.
-fn agrees(trial: u64, list: &[u8], at: usize, n: usize) -> u64
+fn agrees(rt: &impl Print, trial: u64, list: &[u8], at: usize, n: usize) -> io::Result<u64>
     requires { at + 13 + n ≤ length list.now }
-    ensures { result ≤ 1 }
+    ensures { IfOk result (λ v. v ≤ 1) }
 {
     let from = at + HEAD;
     let a = found(&list[from..from + n], request_at(list, at));
     if is_listed(a, list, at) {
-        return 1;
+        return Ok(1);
     }
-    print_trial(trial, a);
-    0
+    print_trial(rt, trial, a)?;
+    Ok(0)
 }
 
-fn print_trial(trial: u64, found: Answer) {
-    print_number(trial);
-    print_number(found.kind);
-    print_number(found.value);
-    print_number(found.place as u64);
-    io::write_all(STDOUT_FILENO, b"disagrees\n");
+fn print_trial(rt: &impl Print, trial: u64, found: Answer) -> io::Result<()> {
+    print_number(rt, trial)?;
+    print_number(rt, found.kind)?;
+    print_number(rt, found.value)?;
+    print_number(rt, found.place as u64)?;
+    println!(rt; "disagrees")
 }
 
-fn print_number(x: u64) {
-    io::print_decimal(STDOUT_FILENO, x);
-    io::write_all(STDOUT_FILENO, b" ");
+fn print_number(rt: &impl Print, x: u64) -> io::Result<()> {
+    print!(rt; "{x} ")
 }
 
 // ---- all trials
 
-fn try_all(list: &[u8]) {
+fn try_all(rt: &impl Print, list: &[u8]) -> io::Result<()> {
     let mut trials: u64 = 0;
     let mut agreeing: u64 = 0;
     let mut at: usize = 0;
     while list.len() - at >= HEAD {
         let n = sheet_length(list, at);
         trials += 1;
-        agreeing += agrees(trials, list, at, n);
+        agreeing += agrees(rt, trials, list, at, n)?;
         at += HEAD + n;
     }
-    print_tally(agreeing, trials);
+    print_tally(rt, agreeing, trials)
 }
 
-fn print_tally(agreeing: u64, trials: u64) {
-    print_number(agreeing);
-    io::write_all(STDOUT_FILENO, b"of ");
-    print_number(trials);
-    io::write_all(STDOUT_FILENO, b"trials agree\n");
+fn print_tally(rt: &impl Print, agreeing: u64, trials: u64) -> io::Result<()> {
+    print_number(rt, agreeing)?;
+    print!(rt; "of ")?;
+    print_number(rt, trials)?;
+    println!(rt; "trials agree")
 }
 
-fn try_text(text: &[u8], list: &mut [u8])
+fn try_text(rt: &impl Print, text: &[u8], list: &mut [u8]) -> io::Result<()>
     requires { (length text.now ≤ 16384) × (8192 ≤ length list.old) }
 {
     let n = decode(text, list);
-    try_all(&list[..n]);
+    try_all(rt, &list[..n])
 }
 
-fn main() {
+// ---- standard input
+
+// Reads until the buffer is full or the input ends; how many bytes were read.
+fn read_full(rt: &impl Input, buf: &mut [u8]) -> io::Result<usize>
+    ensures { IfOk result (λ n. n ≤ length buf.new) }
+{
+    let mut reader = rt.reader();
+    let mut done: usize = 0;
+    while done < buf.len() {
+        let n = reader.read(&mut buf[done..])?;
+        if n == 0 {
+            break;
+        }
+        done += n;
+    }
+    Ok(done)
+}
+
+fn main(rt: HostRuntime) -> io::Result<()> {
     let mut text = [0u8; 16384];
     let mut list = [0u8; 8192];
-    let n = io::read_full(STDIN_FILENO, &mut text);
-    try_text(&text[..n], &mut list);
+    let n = read_full(&rt, &mut text)?;
+    try_text(&rt, &text[..n], &mut list)
 }
