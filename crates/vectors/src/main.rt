@@ -8,7 +8,6 @@ ghost use Rattle.std.specs.Prelude.{◌≤◌};
 use calls::grounded;
 use expression::Outcome;
 use generator::{ROOM, drawn, lent, limit, next_seed, pins, room, sheet};
-use libc::STDOUT_FILENO;
 use oracle::answering::answer;
 use oracle::checking::need_of;
 use oracle::naming::name;
@@ -18,6 +17,7 @@ use outcomes::{kind, place, value};
 use plain_calls::plain;
 use report_calls::{plain_report, report};
 use reporting::Report;
+use std::io;
 use tallies::{count, print_counts, print_disagreement, print_number};
 
 // ---- the engine's answers in the oracle's form
@@ -251,34 +251,34 @@ fn told(s: &[u8], room: u64, pins_in: u64, pins_out: u64, expected: Answer) -> u
     1
 }
 
-fn try_listed() {
+fn try_listed(rt: &impl Print) -> io::Result<()> {
     let nine = b"\x11\x00\x11\x00\x11\x00\x11\x00\x11\x00\x11\x00\x11\x00\x11\x00\x11\x00";
     let a = listed(nine, 0, 0, 10, 16);
     let b = listed(b"\x11\x00\x11\x01", 0, 0, 12, 4);
-    print_number(a + b);
-    io::write_all(STDOUT_FILENO, b"of 2 listed sheets\n");
+    print_number(rt, a + b)?;
+    println!(rt; "of 2 listed sheets")
 }
 
 // On no copy, on five: a clash on copy 40, one beside a pin on it, and one alone.
-fn try_clashes() {
+fn try_clashes(rt: &impl Print) -> io::Result<()> {
     let five = b"\x11\x00\x11\x00\x21\x11\x00\x21\x11\x00\x21\x11\x00\x21";
     let a = listed(b"", 1, 1, 12, 0);
     let b = listed(five, 0x10000000000, 0x10000000000, 13, 14);
     let c = listed(five, 0x10000000001, 1, 13, 14);
     let d = listed(five, 0x11, 0x10, 4, 0);
-    print_number(a + b + c + d);
-    io::write_all(STDOUT_FILENO, b"of 4 clashes\n");
+    print_number(rt, a + b + c + d)?;
+    println!(rt; "of 4 clashes")
 }
 
 // Three copies that are parts at once need four areas of 1088 words: a word less comes before 13, and behind 5 and 12; with it all is read.
-fn try_rooms() {
+fn try_rooms(rt: &impl Print) -> io::Result<()> {
     let three = b"\x11\x00\x11\x00\x11\x00\x21\x21";
     let a = roomed(three, 4351, 8, 8, 3, 0);
     let b = roomed(b"\x11\x00\x99", 0, 8, 8, 5, 2);
     let c = roomed(b"\x11\x00\x11\x00", 0, 8, 8, 12, 4);
     let d = roomed(three, 4352, 1, 1, 4, 0);
-    print_number(a + b + c + d);
-    io::write_all(STDOUT_FILENO, b"of 4 rooms\n");
+    print_number(rt, a + b + c + d)?;
+    println!(rt; "of 4 rooms")
 }
 
 // ---- names (02, Item 1)
@@ -329,7 +329,7 @@ fn has_names(s: &[u8]) -> bool {
 }
 
 // Two copies joined: the second is the newest, whose first name is replaced; a rule's name is no copy's; the bytes of a name are no commands.
-fn try_names() {
+fn try_names(rt: &impl Print) -> io::Result<()> {
     let two =
         b"\x11\x00\x11\x00\x21\x51\x21\x21\x21\x21\x21\x21\x21\x21\x21\x21\x21\x21\x21\x21\x21\x21\x51archive of 2026 \x12\x01\x51rule of archives\x21";
     let a = named(two, 0, 0, 0);
@@ -349,8 +349,8 @@ fn try_names() {
         6,
         0,
     );
-    print_number(a + b + c + d + e);
-    io::write_all(STDOUT_FILENO, b"of 5 names\n");
+    print_number(rt, a + b + c + d + e)?;
+    println!(rt; "of 5 names")
 }
 
 // 1 where both call a copy as listed.
@@ -376,7 +376,7 @@ fn decided(s: &[u8], kind: u64, value: u64) -> u64
 }
 
 // The rule in the first group named and the copy in the second: of each kind, and with a granted copy. Then a copy and a rule in both, either way round.
-fn try_links() {
+fn try_links(rt: &impl Print) -> io::Result<()> {
     let a = decided(b"\x12\x00\x11\x01\x21\x41\x00\x01", YES, 1);
     let b = decided(b"\x12\x00\x11\x01\x21\x42\x00\x01", YES, 0);
     let c = decided(b"\x12\x00\x11\x01\x21\x43\x00\x01", NO, 0);
@@ -385,8 +385,8 @@ fn try_links() {
     let turned = b"\x11\x00\x12\x00\x21\x11\x01\x21\x12\x01\x21\x41\x01\x00";
     let e = decided(both, YES, 3);
     let f = decided(turned, YES, 3);
-    print_number(a + b + c + d + e + f);
-    io::write_all(STDOUT_FILENO, b"of 6 links\n");
+    print_number(rt, a + b + c + d + e + f)?;
+    println!(rt; "of 6 links")
 }
 
 // ---- refusals that the random sheets are too small for
@@ -441,9 +441,12 @@ fn crowded(leaf: u8, place: usize) -> u64
 }
 
 // A 64th atom, of either kind, and a 257th rule.
-fn try_large() {
-    print_number(try_long() + crowded(0x11, 188) + crowded(0x13, 188) + crowded(0x12, 767));
-    io::write_all(STDOUT_FILENO, b"of 5 large sheets\n");
+fn try_large(rt: &impl Print) -> io::Result<()> {
+    print_number(
+        rt,
+        try_long() + crowded(0x11, 188) + crowded(0x13, 188) + crowded(0x12, 767),
+    )?;
+    println!(rt; "of 5 large sheets")
 }
 
 // ---- random trials
@@ -480,36 +483,36 @@ fn try_seed(seed: u64) -> u64 {
 }
 
 // Up to the first disagreement, which is printed: its seed and its kind.
-fn try_seeds(n: u64, counts: &mut [u64; 64]) {
+fn try_seeds(rt: &impl Print, n: u64, counts: &mut [u64; 64]) -> io::Result<()> {
     let mut seed: u64 = 1;
     let mut k: u64 = 0;
     while k < n {
         seed = next_seed(seed);
         let answer = try_seed(seed);
         if answer >= OUTCOME {
-            print_disagreement(seed, answer);
-            return;
+            return print_disagreement(rt, seed, answer);
         }
         count(counts, answer);
         k += 1;
     }
+    Ok(())
 }
 
-fn print_all(counts: &[u64; 64]) {
-    print_counts(counts, 1, 18);
-    io::write_all(STDOUT_FILENO, b"refused, by number\n");
-    print_counts(counts, 20, 24);
-    io::write_all(STDOUT_FILENO, b"no, yes, reports, not tried\n");
+fn print_all(rt: &impl Print, counts: &[u64; 64]) -> io::Result<()> {
+    print_counts(rt, counts, 1, 18)?;
+    println!(rt; "refused, by number")?;
+    print_counts(rt, counts, 20, 24)?;
+    println!(rt; "no, yes, reports, not tried")
 }
 
-fn main() {
+fn main(rt: HostRuntime) -> io::Result<()> {
     let mut counts = [0u64; 64];
-    try_listed();
-    try_clashes();
-    try_rooms();
-    try_names();
-    try_links();
-    try_large();
-    try_seeds(TRIALS, &mut counts);
-    print_all(&counts);
+    try_listed(&rt)?;
+    try_clashes(&rt)?;
+    try_rooms(&rt)?;
+    try_names(&rt)?;
+    try_links(&rt)?;
+    try_large(&rt)?;
+    try_seeds(&rt, TRIALS, &mut counts)?;
+    print_all(&rt, &counts)
 }

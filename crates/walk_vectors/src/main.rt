@@ -8,7 +8,6 @@ ghost use Rattle.std.specs.Prelude.{◌≤◌};
 use expression::Outcome;
 use expression::refusals::BAD_RECORD;
 use generator::{ROOM, drawn, lent, limit, next_seed, pins, room, sheet};
-use libc::STDOUT_FILENO;
 use oracle::answering::{answer, table_answer};
 use oracle::checking::{LARGE, area, check, need_of};
 use oracle::{Answer, REFUSED, answered, is_same};
@@ -18,6 +17,7 @@ use outcomes::{kind, place, value};
 use policies::{Policy, no_policy};
 use records::{Progress, Record, Stepped};
 use starts::start;
+use std::io;
 use tallies::{count, print_counts, print_disagreement};
 use verdicts::verdict;
 
@@ -628,30 +628,30 @@ fn try_seed(seed: u64) -> u64 {
 }
 
 // Up to the first disagreement, which is printed: its seed and its kind.
-fn try_seeds(n: u64, counts: &mut [u64; 64]) {
+fn try_seeds(rt: &impl Print, n: u64, counts: &mut [u64; 64]) -> io::Result<()> {
     let mut seed: u64 = 1;
     let mut k: u64 = 0;
     while k < n {
         seed = next_seed(seed);
         let answer = try_seed(seed);
         if answer >= START {
-            print_disagreement(seed, answer);
-            return;
+            return print_disagreement(rt, seed, answer);
         }
         count(counts, answer);
         k += 1;
     }
+    Ok(())
 }
 
-fn print_all(counts: &[u64; 64]) {
-    print_counts(counts, 1, 17);
-    io::write_all(STDOUT_FILENO, b"refused, by number\n");
-    print_counts(counts, 20, 23);
-    io::write_all(STDOUT_FILENO, b"no, yes, not tried\n");
+fn print_all(rt: &impl Print, counts: &[u64; 64]) -> io::Result<()> {
+    print_counts(rt, counts, 1, 17)?;
+    println!(rt; "refused, by number")?;
+    print_counts(rt, counts, 20, 23)?;
+    println!(rt; "no, yes, not tried")
 }
 
-fn main() {
+fn main(rt: HostRuntime) -> io::Result<()> {
     let mut counts = [0u64; 64];
-    try_seeds(TRIALS, &mut counts);
-    print_all(&counts);
+    try_seeds(&rt, TRIALS, &mut counts)?;
+    print_all(&rt, &counts)
 }
