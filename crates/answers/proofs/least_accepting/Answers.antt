@@ -27,9 +27,9 @@ loop-j-preserved c =
       omega (arith, c.loop-j-test.true),
       elim c.if-accepts_row.branch [
         | goal.then-accepts_row x ↦ row-passes (accepting label_count) c.args.carry c.args.w c.args.p c.args.a c.args.n c.args.vals.now c.args.ws.now c.requires.0 c.requires.1 c.requires.2 _ _ c.loop-j.invariant.1
-            c.loop-j-test.true (sym told ∙ x.0.taken) x.1.result x.1.ensures _ (ap total_of x.3 ∙ x.2.ensures)
+            c.loop-j-test.true (sym told ∙ x.if-accepts_row.true) x.value_at-v.result x.value_at-v.ensures _ (ap total_of x.best-is ∙ x.with_value-best.ensures)
         | goal.else-accepts_row x ↦ row-fails (accepting label_count) c.args.carry c.args.w c.args.p c.args.a c.args.n c.args.vals.now c.args.ws.now c.requires.0 c.requires.1 c.requires.2 _ _ c.loop-j.invariant.1
-            c.loop-j-test.true (sym told ∙ x.0.left) _ (ap total_of x.1)
+            c.loop-j-test.true (sym told ∙ x.if-accepts_row.false) _ (ap total_of x.best-is)
       ],
     )
 

@@ -17,5 +17,5 @@ pub loop-c-preserved : goal.loop-c-preserved
 loop-c-preserved c =
     let v = c.args.v in (
       omega arith,
-      elim c.if-v-c-eq1.branch [ goal.then-v-c-eq1 w ↦ w.1 ∙ ap (λ (m : ℕ). bit_or m ((1 * 2 ^ c.loop-c.c) % 2 ^ 64)) c.loop-c.invariant.1 ∙ shown-in c.loop-c.c v (omega arith) w.0.taken | goal.else-v-c-eq1 w ↦ w.1 ∙ c.loop-c.invariant.1 ∙ shown-out c.loop-c.c v (omega arith) w.0.left ],
+      elim c.if-v-c-eq1.branch [ goal.then-v-c-eq1 w ↦ w.mask-is ∙ ap (λ (m : ℕ). bit_or m ((1 * 2 ^ c.loop-c.c) % 2 ^ 64)) c.loop-c.invariant.1 ∙ shown-in c.loop-c.c v (omega arith) w.if-v-c-eq1.true | goal.else-v-c-eq1 w ↦ w.mask-is ∙ c.loop-c.invariant.1 ∙ shown-out c.loop-c.c v (omega arith) w.if-v-c-eq1.false ],
     )
