@@ -1,7 +1,7 @@
 -- A running record that is passed has eight counts. Assumes nothing.
-use mathlib.Core.Path.{◌≡◌, sym, ◌∙◌}
+use mathlib.Core.Path.{◌≡◌}
 use mathlib.Core.List.{List}
-use lib.ListN.{length, length-map}
+use lib.ListN.{length}
 use mir.Val.{Val}
 use denote.Laws.{Is}
 use denote.Struct.Declared.{row}
@@ -12,4 +12,4 @@ use Rattle.records.specs.contracts.Record.{the_type}
 use Rattle.records.proofs.Record.TheLaws.{the_laws}
 
 pub eight : (r : Record) (vs : List Val) → Is (row the_type) r vs → length r.counts ≡ depth_limit
-eight r vs h = sym (length-map r.counts (λ v. v)) ∙ (owed the_type the_laws r vs h).1.1.0.1.0.1
+eight r vs h = (owed the_type the_laws r vs h).1.1.0.1.0.1
