@@ -126,10 +126,10 @@ module _ (kind : Tables) (carry : Carry) (o : Assumptions) (w p stop : ℕ) (s :
   chain-leads : {z : Counts} {n : Counts} (cs : List Command) (at end : ℕ) (x : List Entry) (us : List (List Entry)) → L z at n (x ∷ us) → Sound w p (pairs_of x) → All (Small carry) x → Chain label_count s stop at end cs
       → L z end (chain_counts n cs) (stretched carry cs (x ∷ us))
   unfolding Chain chain_counts
-  chain-leads {z} {n} [] at end x us g h small e = subst (λ k. L z k n (x ∷ us)) e g
-  chain-leads {z} {n} (c ∷ cs) at end x us g h small e =
+  chain-leads {z = z} {n = n} [] at end x us g h small e = subst (λ k. L z k n (x ∷ us)) e g
+  chain-leads {z = z} {n = n} (c ∷ cs) at end x us g h small e =
       subst (L z end (chain_counts (joined_counts n c) cs)) (stretch-more carry c cs x us)
-      (chain-leads cs e.1.0 end (batched_table carry (c ∷ []) x) us (one g e.0 h small c e.1.0 e.1.1) (batched-sound carry w p (c ∷ []) x h) (small-batched carry (c ∷ []) x small) e.1.2)
+      (chain-leads {n = joined_counts n c} cs e.1.0 end (batched_table carry (c ∷ []) x) us (one g e.0 h small c e.1.0 e.1.1) (batched-sound carry w p (c ∷ []) x h) (small-batched carry (c ∷ []) x small) e.1.2)
 
   -- from what stands before them to what stands after them
   pub going-ahead : {d : ℕ} {z n : Counts} {at : ℕ} {beyond ws vals counts ws' vals' counts' : List ℕ} {r : Stretch} (g : Going kind carry o w p stop s d z beyond at n ws vals counts)
