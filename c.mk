@@ -42,7 +42,7 @@ host_PARTS := examples/host examples/arguments examples/sheet_file
 told_host_PARTS := tests/told_engine $(host_PARTS)
 
 # Under the sanitizers stack frames are larger than the library's own, and calls go through their memcpy: neither stack nor paths are looked at. The
-# listing program is the kit's to make ('rt check listing', and 'rt ci' too); SKIP_LISTING=1 passes without it.
+# listing program is rt's to make ('rt run' in crates/listing, and 'rt ci' too); SKIP_LISTING=1 passes without it.
 c-test: $(C_TESTS:%=$(C_BIN)/%) $(C_BIN)/host
 	$(C_BIN)/test_calls
 	$(C_BIN)/test_random
@@ -54,7 +54,7 @@ c-test: $(C_TESTS:%=$(C_BIN)/%) $(C_BIN)/host
 	tests/test_loops.sh $(ARCHIVE)
 	$(C_BIN)/host examples/sheets/office.hex
 	tests/test_host.sh $(C_BIN)/host $(C_BIN)/told_host $(if $(SANITIZE),sanitized)
-	tests/test_listing.sh $(if $(SKIP_LISTING),--may-skip) target/bin/listing
+	tests/test_listing.sh $(if $(SKIP_LISTING),--may-skip) crates/listing/out/listing
 
 bench: $(C_BIN)/$(if $(OLD),bench_beside_old,bench)
 	$<
@@ -80,9 +80,10 @@ install: $(ARCHIVE)
 	install -C -m 644 include/nuntennis.h $(DESTDIR)$(PREFIX)/include/nuntennis.h
 	sed -e 's|@PREFIX@|$(PREFIX)|' -e 's|@VERSION@|$(C_VERSION)|' nuntennis.pc.in > $(DESTDIR)$(PREFIX)/lib/pkgconfig/nuntennis.pc
 
-# Made anew where a file of its crates is newer, or one was added or removed.
+# Made anew where a file of its crates is newer, or one was added or removed. A crate's own folder also has what rt keeps there.
 ARCHIVE_CRATES := $(shell scripts/needed nuntennis)
-target/staticlib/libnuntennis.a: crates.txt $(shell find $(ARCHIVE_CRATES:%=crates/%) \( -name '*.rt' -o -name '*.antt' -o -type d \) -not -path '*/must-fail*')
+ARCHIVE_FOLDERS := $(foreach c,$(ARCHIVE_CRATES),$(wildcard crates/$c/src crates/$c/specs crates/$c/proofs))
+target/staticlib/libnuntennis.a: crates.txt $(shell find $(ARCHIVE_FOLDERS) -name '*.rt' -o -name '*.antt' -o -type d)
 	@scripts/archive
 
 define C_PROGRAM
