@@ -27,7 +27,7 @@ use Rattle.tables.specs.Algebras.{Algebra, tables, table}
 use Rattle.tables.specs.Exactness.{ExactTables}
 use Rattle.tables.proofs.Exactness.{exact-all}
 use Rattle.decisions.specs.Decisions.{assumed, commands_in, newest, Walked, stopped, walked, walk, first_tree}
-use Rattle.decisions.proofs.Walks.{tables_after, walk-all, commands-suit}
+use Rattle.decisions.proofs.Walks.{tables-after, walk-all, commands-suit}
 use Rattle.walks.specs.Walks.{before}
 use Rattle.walks.proofs.Before.{before_more}
 use Rattle.reporting.specs.Reporting.{starts_at, Asked, refused_at, table_at, newest_in, asked_table}
@@ -97,7 +97,7 @@ module _ (K : ℕ) (a : Request) (at : ℕ) {z : Counts} (passed : check K a ≡
         let (e, es, stack) = filled-by (act_all trees 0 cs []) (filled (omega arith)) in
         let all = subst (All (λ t. ExactTables K t (assumed a))) stack (exact-all K (assumed a) cs suit) in
         record {
-          is = ap newest (walk-all (tables A (assumed a)) f 0 placed [] us h ∙ tables_after A (assumed a) placed ∙ ap (map (table A (assumed a))) stack)
+          is = ap newest (walk-all (tables A (assumed a)) f 0 placed [] us h ∙ tables-after A (assumed a) placed ∙ ap (map (table A (assumed a))) stack)
               ∙ ap (λ (ts : List Expr). table A (assumed a) (first_tree ts)) (sym stack);
           exact = subst (λ (ts : List Expr). ExactTables K (first_tree ts) (assumed a)) (sym stack) all.0;
         }
