@@ -42,7 +42,7 @@ host_PARTS := examples/host examples/arguments examples/sheet_file
 told_host_PARTS := tests/told_engine $(host_PARTS)
 
 # Under the sanitizers stack frames are larger than the library's own, and calls go through their memcpy: neither stack nor paths are looked at. The
-# listing program is rt's to make ('rt run' in crates/listing, and 'rt ci' too); SKIP_LISTING=1 passes without it.
+# listing program is rt's to make ('rt run <stdin' in crates/listing, and 'rt ci' too); SKIP_LISTING=1 passes without it.
 c-test: $(C_TESTS:%=$(C_BIN)/%) $(C_BIN)/host
 	$(C_BIN)/test_calls
 	$(C_BIN)/test_random

@@ -11,7 +11,7 @@ if [ "${1-}" = --may-skip ]; then may_skip=yes; shift; fi
 listing=${1:?usage: tests/test_listing.sh [--may-skip] PROGRAM}
 case $listing in */*) ;; *) listing=./$listing ;; esac
 if [ ! -x "$listing" ]; then
-    echo "test_listing: there is no $listing; 'rt run' in crates/listing makes it"
+    echo "test_listing: there is no $listing; 'rt run <stdin' in crates/listing makes it"
     [ "$may_skip" = yes ] || exit 1
     echo "test_listing: skipped, as asked"
     exit 0

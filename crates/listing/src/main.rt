@@ -2,7 +2,7 @@
 // is assumed.
 #![tactic(auto)]
 
-ghost use Rattle.std.specs.Prelude.{◌≡◌, false, ◌++◌, ◌≤◌, ◌<◌, length, drop};
+ghost use Rattle.std.specs.Prelude.{◌≡◌, false, ◌++◌, ◌≤◌, ◌<◌, length, drop, IfOk};
 ghost use Rattle.labels.specs.Labels.{label_count};
 ghost use Rattle.expression.specs.Limits.{area_words};
 ghost use Rattle.decisions.specs.Outcomes.{verdict_of};
@@ -15,12 +15,13 @@ ghost use Rattle.listing.specs.Listing.{is_refusal, either_refused, last_start, 
 use calls::grounded;
 use expression::limits::{AREAS, BYTE_LIMIT};
 use expression::{Outcome, Read};
-use libc::{STDERR_FILENO, STDIN_FILENO, STDOUT_FILENO};
 use outcomes::{kind, place, value};
 use plain_calls::plain;
 use reader::read_next;
 use report_calls::report;
 use reporting::Report;
+use std::io;
+use std::io::Read as _;
 
 // Of pairs, and of subsets in a pair.
 const LIMIT: u64 = 32;
@@ -33,55 +34,56 @@ const AREA: usize = LIMIT as usize * WIDTH;
 
 // ---- text; the byte strings stand apart from the loops
 
-fn print_space() {
-    io::write_all(STDOUT_FILENO, b" ");
+fn print_space(rt: &impl Print) -> io::Result<()> {
+    print!(rt; " ")
 }
 
-fn end_line() {
-    io::write_all(STDOUT_FILENO, b"\n");
+fn end_line(rt: &impl Print) -> io::Result<()> {
+    println!(rt)
 }
 
-fn print_outcome(o: Outcome) {
-    io::print_decimal(STDOUT_FILENO, kind(o));
-    print_space();
-    io::print_decimal(STDOUT_FILENO, value(o));
-    print_space();
-    io::print_decimal(STDOUT_FILENO, place(o));
-    end_line();
+fn print_outcome(rt: &impl Print, o: Outcome) -> io::Result<()> {
+    rt.print(kind(o))?;
+    print_space(rt)?;
+    rt.print(value(o))?;
+    print_space(rt)?;
+    rt.print(place(o))?;
+    end_line(rt)
 }
 
-fn print_word(x: u32) {
-    io::print_decimal(STDOUT_FILENO, x as u64);
+fn print_word(rt: &impl Print, x: u32) -> io::Result<()> {
+    rt.print(x)
 }
 
 // The words from `at` to `end` as one line.
-fn print_line(words: &[u32], at: usize, end: usize)
+fn print_line(rt: &impl Print, words: &[u32], at: usize, end: usize) -> io::Result<()>
     requires { (at < end) × (end ≤ length words.now) }
 {
-    print_word(words[at]);
+    print_word(rt, words[at])?;
     let mut i = at + 1;
     while i < end {
-        print_space();
-        print_word(words[i]);
+        print_space(rt)?;
+        print_word(rt, words[i])?;
         i += 1;
     }
-    end_line();
+    end_line(rt)
 }
 
 // ---- the table
 
 // A report's n pairs, one to a line. A pair's second word says where it ends.
-fn print_pairs(words: &[u32], n: u64)
+fn print_pairs(rt: &impl Print, words: &[u32], n: u64) -> io::Result<()>
     requires { PairsFrom 0 n words.now }
 {
     let mut at: usize = 0;
     let mut left = n;
     while left > 0 {
         let end = at + 2 + words[at + 1] as usize;
-        print_line(words, at, end);
+        print_line(rt, words, at, end)?;
         at = end;
         left -= 1;
     }
+    Ok(())
 }
 
 // Where the last command starts.
@@ -116,15 +118,14 @@ fn write_table(s: &[u8], ws: &mut [u32], words: &mut [u32]) -> u64
     n
 }
 
-fn print_table(s: &[u8], ws: &mut [u32], words: &mut [u32])
+fn print_table(rt: &impl Print, s: &[u8], ws: &mut [u32], words: &mut [u32]) -> io::Result<()>
     requires ws_value { either_refused label_count (request s.now 32 32 (length ws.old) 0 0) ≡ false }
     requires area_words_in_bounds { area_words 32 32 ≤ length words.old }
 {
     let n = write_table(s, ws, words);
-    io::write_all(STDOUT_FILENO, b"table ");
-    io::print_decimal(STDOUT_FILENO, n);
-    end_line();
-    print_pairs(words, n);
+    print!(rt; "table {n}")?;
+    end_line(rt)?;
+    print_pairs(rt, words, n)
 }
 
 // ---- the decisions
@@ -140,67 +141,80 @@ fn is_refused(o: Outcome) -> bool
 }
 
 // Prints both decisions, and says whether either refused.
-fn print_decisions(s: &[u8], ws: &mut [u32]) -> bool
-    ensures { result ≡ either_refused label_count (request s.now 32 32 (length ws.old) 0 0) }
+fn print_decisions(rt: &impl Print, s: &[u8], ws: &mut [u32]) -> io::Result<bool>
+    ensures { IfOk result (λ v. v ≡ either_refused label_count (request s.now 32 32 (length ws.old) 0 0)) }
 {
     let a = grounded(s, LIMIT, LIMIT, 0, 0, ws);
-    io::write_all(STDOUT_FILENO, b"answer ");
-    print_outcome(a);
+    print!(rt; "answer ")?;
+    print_outcome(rt, a)?;
     let b = plain(s, LIMIT, LIMIT, 0, 0, ws);
-    io::write_all(STDOUT_FILENO, b"plain ");
-    print_outcome(b);
+    print!(rt; "plain ")?;
+    print_outcome(rt, b)?;
     if is_refused(a) {
-        return true;
+        return Ok(true);
     }
-    is_refused(b)
+    Ok(is_refused(b))
 }
 
-fn print_listing(s: &[u8], ws: &mut [u32], words: &mut [u32])
+fn print_listing(rt: &impl Print, s: &[u8], ws: &mut [u32], words: &mut [u32]) -> io::Result<()>
     requires { area_words 32 32 ≤ length words.old }
 {
-    if print_decisions(s, ws) {
-        return;
+    if print_decisions(rt, s, ws)? {
+        return Ok(());
     }
-    print_table(s, ws, words);
+    print_table(rt, s, ws, words)
 }
 
 // The most words that tables need, and a buffer for the largest of them.
-fn list(s: &[u8]) {
+fn list(rt: &impl Print, s: &[u8]) -> io::Result<()> {
     let mut ws = [0u32; AREAS * AREA];
     let mut words = [0u32; AREA];
-    print_listing(s, &mut ws, &mut words);
+    print_listing(rt, s, &mut ws, &mut words)
 }
 
 // ---- standard input
 
-// A read answers 0 at the end alone: -1 is an error.
-fn is_at_end() -> bool {
-    let mut more = [0u8; 1];
-    libc::read(STDIN_FILENO, &mut more) == 0
+// Reads until the buffer is full, the input ends or a read fails; how many bytes were read.
+fn read_full(rt: &impl Input, buf: &mut [u8]) -> usize
+    ensures { result ≤ length buf.new }
+{
+    let mut reader = rt.reader();
+    let mut done: usize = 0;
+    while done < buf.len() {
+        let n = reader.read(&mut buf[done..]).unwrap_or(0);
+        if n == 0 {
+            break;
+        }
+        done += n;
+    }
+    done
 }
 
-// io::read_full stops at the end and at a failed read alike, so a further read tells them apart. What fills the buffer is overlong, whatever follows.
-fn is_whole(n: usize) -> bool {
+// A read answers 0 at the end alone: a failed one is an error.
+fn is_at_end(rt: &impl Input) -> bool {
+    let mut more = [0u8; 1];
+    matches!(rt.reader().read(&mut more), Ok(0))
+}
+
+// read_full stops at the end and at a failed read alike, so a further read tells them apart. What fills the buffer is overlong, whatever follows.
+fn is_whole(rt: &impl Input, n: usize) -> bool {
     if n > BYTE_LIMIT {
         return true;
     }
-    is_at_end()
+    is_at_end(rt)
 }
 
-fn print_unread() {
-    io::write_all(
-        STDERR_FILENO,
-        b"listing: standard input was not read whole: nothing decided\n",
-    );
+fn print_unread(rt: &impl Eprint) -> io::Result<()> {
+    eprintln!(rt; "listing: standard input was not read whole: nothing decided")
 }
 
 // One byte more is read than a sheet may have, so that 1 can be said. What was not read whole is not decided.
-fn main() {
+fn main(rt: HostRuntime) -> io::Result<()> {
     let mut bytes = [0u8; BYTE_LIMIT + 1];
-    let n = io::read_full(STDIN_FILENO, &mut bytes);
-    if is_whole(n) {
-        list(&bytes[..n]);
+    let n = read_full(&rt, &mut bytes);
+    if is_whole(&rt, n) {
+        list(&rt, &bytes[..n])
     } else {
-        print_unread();
+        print_unread(&rt)
     }
 }

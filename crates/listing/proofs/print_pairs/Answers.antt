@@ -1,0 +1,25 @@
+-- `print_pairs`: from where it stands on, as many pairs are written as are left to print. Assumes nothing.
+use Rattle.std.proofs.Common.{arith}
+use Rattle.listing.proofs.Printing.{pair-next}
+use Rattle.listing.proofs.print_pairs.Goals as goal
+
+pub overflow_add-end : goal.overflow_add-end
+overflow_add-end g c = let n = pair-next c.loop-left.at c.loop-left.left c.args.words.now c.loop-left-test.true c.loop-left.invariant in omega (arith, n.0)
+
+pub overflow_add-end-in-loop-left : goal.overflow_add-end-in-loop-left
+overflow_add-end-in-loop-left g c = let n = pair-next c.loop-left.at c.loop-left.left c.args.words.now c.loop-left-test.true c.loop-left.invariant in omega (arith, n.0)
+
+pub offset_bounds-words-at : goal.offset_bounds-words-at
+offset_bounds-words-at g c = let n = pair-next c.loop-left.at c.loop-left.left c.args.words.now c.loop-left-test.true c.loop-left.invariant in omega (arith, n.0)
+
+pub bounds-words-at : goal.bounds-words-at
+bounds-words-at g c = let n = pair-next c.loop-left.at c.loop-left.left c.args.words.now c.loop-left-test.true c.loop-left.invariant in omega (arith, n.0)
+
+pub overflow_add-end-in-loop-left-2 : goal.overflow_add-end-in-loop-left-2
+overflow_add-end-in-loop-left-2 g c = let n = pair-next c.loop-left.at c.loop-left.left c.args.words.now c.loop-left-test.true c.loop-left.invariant in omega (arith, n.0)
+
+pub print_line-requires : goal.print_line-requires
+print_line-requires g c = let n = pair-next c.loop-left.at c.loop-left.left c.args.words.now c.loop-left-test.true c.loop-left.invariant in (omega arith, n.0)
+
+pub loop-left-preserved : goal.loop-left-preserved
+loop-left-preserved g c = let n = pair-next c.loop-left.at c.loop-left.left c.args.words.now c.loop-left-test.true c.loop-left.invariant in n.1
