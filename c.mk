@@ -41,7 +41,6 @@ bench_beside_old_PARTS := $(bench_PARTS) old new
 host_PARTS := examples/host examples/arguments examples/sheet_file
 told_host_PARTS := tests/told_engine $(host_PARTS)
 
-# SKIP_MOVES=1 passes over test_moves, as the gate does for a time: PORTING-LEFT.md says why.
 # Under the sanitizers stack frames are larger than the library's own, and calls go through their memcpy: neither stack nor paths are looked at. The
 # listing program is rt's to make ('rt run <stdin' in crates/listing, and 'rt ci' too); SKIP_LISTING=1 passes without it.
 c-test: $(C_TESTS:%=$(C_BIN)/%) $(C_BIN)/host
@@ -51,7 +50,7 @@ c-test: $(C_TESTS:%=$(C_BIN)/%) $(C_BIN)/host
 	$(C_BIN)/test_sheets examples/sheets/*.hex
 	$(C_BIN)/test_large
 	$(if $(SANITIZE),,$(C_BIN)/test_stack)
-	$(if $(SANITIZE)$(SKIP_MOVES),,$(C_BIN)/test_moves)
+	$(if $(SANITIZE),,$(C_BIN)/test_moves)
 	tests/test_loops.sh $(ARCHIVE)
 	$(C_BIN)/host examples/sheets/office.hex
 	tests/test_host.sh $(C_BIN)/host $(C_BIN)/told_host $(if $(SANITIZE),sanitized)

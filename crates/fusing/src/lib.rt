@@ -287,7 +287,8 @@ fn marks_after(c: Command, marks: u32) -> u32
     }
 }
 
-// The command of a word of ops.
+// The command of a word of ops. A call of its own: inlined into the loop, the limit on a group becomes a jump, and a move's path would hang on its groups.
+#[inline(never)]
 fn command_in(w: u32) -> Command
     ensures { (result ≡ command_of label_count w) × Suits label_count result }
 {
