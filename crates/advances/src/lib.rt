@@ -4,6 +4,7 @@
 ghost use Rattle.std.specs.Prelude.{◌≡◌, [], ℕ, ◌+◌, ◌-◌, ◌≤◌, ◌<◌, length};
 ghost use Rattle.labels.specs.Labels.{label_count};
 ghost use Rattle.expression.specs.Commands.{Suits};
+ghost use Rattle.expression.specs.Refusals.{number_of};
 ghost use Rattle.semantics.specs.Expressions.{act};
 ghost use Rattle.semantics.specs.AnswerSets.{Assumptions};
 ghost use Rattle.tables.specs.Algebras.{tables};
@@ -17,18 +18,18 @@ ghost use Rattle.advances.specs.Advances.{SomeStand, Advances};
 use commands::effects::effect;
 use entries::Carry;
 use expression::Command;
-use expression::refusals::{PLANS_FULL, SUBSETS_FULL};
+use expression::refusals::Reason;
 use leaves::{Atom, Tables};
 
 // 15 or 16, by the count that a command answers.
-pub fn fault_of(p: usize, r: usize) -> u64
+pub fn fault_of(p: usize, r: usize) -> Reason
     requires { (p < r) × (p ≤ 1024) }
-    ensures { result ≡ fault_of p r }
+    ensures { number_of result ≡ fault_of p r }
 {
     if p + 1 < r {
-        return SUBSETS_FULL;
+        return Reason::SubsetsFull;
     }
-    PLANS_FULL
+    Reason::PlansFull
 }
 
 // The command on t tables in d areas, and their counts; `atom` is the next atom. The answer is as operations::act's.

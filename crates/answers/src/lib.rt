@@ -26,17 +26,11 @@ const UNMET: u32 = 1 << (2 * labels::LABELS as u32);
 fn some_met(triples: &[u32]) -> bool
     ensures { result ≡ some (all_met label_count) triples.now }
 {
-    let mut i = 0;
-    while i < triples.len() {
-        if triples[i] < UNMET {
-            return true;
-        }
-        i += 1;
-    }
-    false
+    triples.iter().any(|t| *t < UNMET)
 }
 
 // Whether the row's pair accepts: Q has U empty, and no subset has.
+#[tactic(auto, unfolding(tables::specs::Definitions::accepting, tables::specs::Triples::all_met, candidates::specs::Candidates::pair_of))]
 pub fn accepts_row(row: &[u32]) -> bool
     requires { Readable row.now }
     ensures { result ≡ accepting label_count (pair_of row.now) }
@@ -48,24 +42,19 @@ pub fn accepts_row(row: &[u32]) -> bool
     !some_met(&row[2..2 + n])
 }
 
-// The least value of the rows that accept, where there is one.
-#[derive(Clone, Copy)]
-pub enum Found {
-    None,
-    Least(u64),
-}
-
 // The least with one value more.
-fn with_value(best: Found, v: u64) -> Found
+#[tactic(auto, unfolding(values::specs::Values::add, values::specs::First::firsts, values::specs::First::least_by))]
+fn with_value(best: Option<u64>, v: u64) -> Option<u64>
     ensures { total_of result ≡ add firsts (total_of best) (worth v) }
 {
     match best {
-        Found::None => Found::Least(v),
-        Found::Least(u) => Found::Least(entries::lesser(u, v)),
+        None => Some(v),
+        Some(u) => Some(entries::lesser(u, v)),
     }
 }
 
-// The least value, by its low word, of the rows that accept, of the n rows at word a with the values `vals`. With nothing carried every value is 0.
+// The least value, by its low word, of the rows that accept, where there is one, of the n rows at word a with the values `vals`. With nothing carried every
+// value is 0.
 pub fn least_accepting(
     ws: &[u32],
     vals: &[u64],
@@ -74,19 +63,17 @@ pub fn least_accepting(
     p: usize,
     a: usize,
     n: usize,
-) -> Found
+) -> Option<u64>
     requires { (a + p * w ≤ length ws.now) × Rows w p n (part a (p * w) ws.now) × Beside carry n vals.now }
     ensures { total_of result ≡ least_of (accepting label_count) (entries_at carry w p a n vals.now ws.now) }
 {
-    let mut best = Found::None;
-    let mut j = 0;
-    while j < n {
+    let mut best = None;
+    for j in 0..n {
         let ra = a + j * w;
         if accepts_row(&ws[ra..ra + w]) {
             let v = entries::value_at(vals, carry, n, j);
             best = with_value(best, v.low);
         }
-        j += 1;
     }
     best
 }
@@ -97,12 +84,10 @@ pub fn shown_mask(n: u64, v: u64) -> u64
     ensures { result ≡ shown_by n v }
 {
     let mut mask = 0;
-    let mut c = 0;
-    while c < n {
+    for c in 0..n {
         if (v >> (ATOM_LIMIT - (c + 1))) % 2 == 1 {
             mask |= 1 << c;
         }
-        c += 1;
     }
     mask
 }

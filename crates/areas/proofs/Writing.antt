@@ -9,11 +9,22 @@ use lib.Seq.{take_all, length-take-le, take_at, drop-append-add, drop-drop, take
 use Rattle.lists.specs.Lists.{All}
 use Rattle.lists.proofs.Members.{all_append, all_take, all_drop}
 use Rattle.tables.specs.Definitions.{Pair}
+use Rattle.candidates.specs.Candidates.{pair_of, Readable}
 use Rattle.rows.specs.Parts.{part, put, Apart}
 use Rattle.rows.specs.Rows.{row_of, Fit, table_of, rows_in, IsRow, Rows, slot, sorted_of, Indexed}
 use Rattle.rows.proofs.Parts.{part-put, part-part, part-high, put-inner, put-part, put-put, put-long}
 use Rattle.rows.proofs.Tables.{row_within, length-table, slot_row, table-put, length-rows_in, rows_of}
-use Rattle.rows.proofs.Indexing.{sorted-long, sorted-fit}
+use Rattle.rows.proofs.Indexing.{sorted-long, sorted-fit, sorted-at, place-lt, slot-readable}
+
+-- a row of the table that is made at `from` lies there
+source_within : {w p m to from : ℕ} {index : List ℕ} (ws : List ℕ) (s : ℕ) → Apart to from (p * w) (length ws) → Indexed w p m (part from (p * w) ws) index → s < m
+    → from + s * w + w ≤ length ws
+source_within {w} {p} ws s a h k = omega (arith, row_within s p w (omega (arith, h.room)), a.within)
+
+-- so does the row that place i of the index names
+pub named_within : {w p m to from : ℕ} {index : List ℕ} (ws : List ℕ) (i : ℕ) → Apart to from (p * w) (length ws) → Indexed w p m (part from (p * w) ws) index → i < m
+    → from + get_or index i 0 * w + w ≤ length ws
+named_within {index = index} ws i a h l = source_within ws (get_or index i 0) a h (place-lt h i l)
 
 module _ (w p m n to from : ℕ) (ws index : List ℕ) (a : Apart to from (p * w) (length ws)) (g : 2 ≤ w) (t : Rows w p n (part to (p * w) ws)) (h : Indexed w p m (part from (p * w) ws) index) where
   abbrev new : List Pair
@@ -56,6 +67,13 @@ module _ (w p m n to from : ℕ) (ws index : List ℕ) (a : Apart to from (p * w
       ap (part (from + s * w) w) e
       ∙ part-high (from + s * w) w to (p * w) ws (table_of w p (half i)) (omega (arith, a.before)) (omega (arith, a.within)) (table-long i l)
       ∙ sym (part-part from (p * w) (s * w) w ws (omega arith) a.within)
+
+  pub source-readable : (i s : ℕ) (vs : List ℕ) → i ≤ m → s < m → Written i vs → Readable (part (from + s * w) w vs)
+  source-readable i s vs l k e = rw (source_is i s vs l k e) (slot-readable h s k)
+
+  -- the row that place i of the index names is the next one
+  pub source-named : (i : ℕ) (vs : List ℕ) → i < m → Written i vs → pair_of (part (from + get_or index i 0 * w) w vs) ≡ get_or new i []
+  source-named i vs l e = ap pair_of (source_is i (get_or index i 0) vs (omega arith) (place-lt h i l) e) ∙ sym (sorted-at h i l)
 
   -- the row that it is written over
   pub target_row : (i : ℕ) (vs : List ℕ) → i < m → Written i vs → IsRow w (part (to + i * w) w vs)

@@ -6,17 +6,16 @@ ghost use Rattle.rows.specs.Parts.{part, put, zeros, Apart};
 ghost use Rattle.rows.specs.Rows.{sorted_of, Indexed, table_of, rows_in, Rows};
 
 // Of the area's n rows only the first m stay.
+#[tactic(auto, using(crate::proofs::Clearing::next_within))]
 pub fn clear_rows(area: &mut [u32], w: usize, p: usize, m: usize, n: usize)
     requires le_w { 2 ≤ w }
     requires rows { Rows w p n area.old }
     requires m_le_n { m ≤ n }
     ensures { area.new ≡ table_of w p (take m (rows_in w n area.old)) }
 {
-    let mut i = n;
-    while m < i {
-        let at = (i - 1) * w;
+    for i in (m..n).rev() {
+        let at = i * w;
         rows::clear_row(&mut area[at..at + w]);
-        i -= 1;
     }
 }
 
@@ -38,14 +37,12 @@ pub fn write_rows(
     requires indexed { Indexed w p m (part from (p * w) ws.old) index.now }
     ensures { ws.new ≡ put to (p * w) ws.old (table_of w p (sorted_of w m (part from (p * w) ws.old) index.now ++ drop m (rows_in w n (part to (p * w) ws.old)))) }
 {
-    let mut i = 0;
-    while i < m {
+    for i in 0..m {
         let s = index[i] as usize;
         let a = from + s * w;
         rows::load_row(row, &ws[a..a + w]);
         let b = to + i * w;
         rows::store_row(&mut ws[b..b + w], row);
-        i += 1;
     }
 }
 

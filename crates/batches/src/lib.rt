@@ -57,6 +57,7 @@ pub struct Left {
 }
 
 // The label in a word's lowest digit.
+#[tactic(auto, unfolding(crate::specs::Batches::label_in))]
 fn label_in(x: u64) -> u32
     ensures { (result ≡ label_in label_count x) × (result < label_count) }
 {
@@ -68,6 +69,7 @@ fn label_in(x: u64) -> u32
 }
 
 // The command that a word stands for.
+#[tactic(auto, unfolding(crate::specs::Batches::command_of, crate::specs::Batches::formed))]
 pub fn command_of(w: u64) -> Command
     ensures { result ≡ command_of label_count w }
 {
@@ -90,6 +92,7 @@ pub fn command_of(w: u64) -> Command
 }
 
 // The word of a connect.
+#[tactic(auto, unfolding(crate::specs::Batches::command_of, crate::specs::Batches::formed, crate::specs::Batches::label_in))]
 pub fn connect_word(k: Kind, i: u32, j: u32) -> u32
     requires { (i < label_count) × (j < label_count) }
     ensures { command_of label_count result ≡ Connect k i j }
@@ -102,6 +105,7 @@ pub fn connect_word(k: Kind, i: u32, j: u32) -> u32
 }
 
 // The word of a rule, a relabel or a connect.
+#[tactic(auto, unfolding(expression::specs::Effects::effect, expression::specs::Commands::Suits))]
 pub fn word_of(c: Command) -> u32
     requires { Suits label_count c × Joins c }
     ensures { command_of label_count result ≡ c }
@@ -110,13 +114,12 @@ pub fn word_of(c: Command) -> u32
         Command::Rule(g) => g,
         Command::Relabel(i, j) => (BASE + i) * BASE + j,
         Command::Connect(k, i, j) => connect_word(k, i, j),
-        Command::Atom(_) => 0,
-        Command::Union => 0,
-        Command::Name(_) => 0,
+        Command::Atom(_) | Command::Union | Command::Name(_) => 0,
     }
 }
 
 // r with the mark of an unmet rule of label g.
+#[tactic(auto, unfolding(tables::specs::Triples::mark_u))]
 pub fn with_rule(g: u32, r: u32) -> u32
     requires { g < label_count }
     ensures { result ≡ bit_or r (mark_u label_count g) }
@@ -125,17 +128,15 @@ pub fn with_rule(g: u32, r: u32) -> u32
 }
 
 // What the command makes of a triple r, where q is the interpretation's own. A rule stands for the union with it.
+#[tactic(auto, unfolding(crate::specs::Batches::step_triple, candidates::specs::Candidates::map_triple, expression::specs::Commands::Suits))]
 fn step_triple(c: Command, q: u32, r: u32) -> u32
     requires { Suits label_count c }
     ensures { result ≡ step_triple label_count c q r }
 {
     match c {
         Command::Rule(g) => with_rule(g, r),
-        Command::Relabel(_, _) => candidates::map_triple(c, q, r),
-        Command::Connect(_, _, _) => candidates::map_triple(c, q, r),
-        Command::Atom(_) => r,
-        Command::Union => r,
-        Command::Name(_) => r,
+        Command::Relabel(_, _) | Command::Connect(_, _, _) => candidates::map_triple(c, q, r),
+        Command::Atom(_) | Command::Union | Command::Name(_) => r,
     }
 }
 
@@ -144,16 +145,13 @@ fn step_words(run: &mut [u32], c: Command, q: u32)
     requires { Suits label_count c }
     ensures { run.new ≡ map (step_triple label_count c q) run.old }
 {
-    let mut i = 0;
-    while i < run.len() {
-        let x = run[i];
-        let y = step_triple(c, q, x);
-        run[i] = y;
-        i += 1;
+    for x in run.iter_mut() {
+        *x = step_triple(c, q, *x);
     }
 }
 
 // The rule that a word stands for.
+#[tactic(auto, unfolding(crate::specs::Batches::judge_of))]
 pub fn judge_of(w: u64) -> Judge
     ensures { (result ≡ judge_of label_count w) × Fits label_count result }
 {
@@ -191,6 +189,7 @@ fn with_unmet(g: u32, met: bool, r: u32) -> u32
 }
 
 // Its label is out of U if it is met, else in U, and is relabelled then.
+#[tactic(auto, unfolding(expression::specs::Commands::Suits))]
 fn settled(j: Judge, q: u32, r: u32, met: bool) -> u32
     requires { Fits label_count j }
     ensures { result ≡ settled label_count j.label j.after met r }
@@ -200,6 +199,7 @@ fn settled(j: Judge, q: u32, r: u32, met: bool) -> u32
 }
 
 // What the rule makes of a triple r, where q is the interpretation's own.
+#[tactic(auto, unfolding(crate::specs::Batches::judge_triple))]
 fn judge_triple(j: Judge, q: u32, r: u32) -> u32
     requires { Fits label_count j }
     ensures { result ≡ judge_triple label_count j q r }
@@ -216,12 +216,8 @@ fn judge_words(run: &mut [u32], j: Judge, q: u32)
     requires { Fits label_count j }
     ensures { run.new ≡ map (judge_triple label_count j q) run.old }
 {
-    let mut i = 0;
-    while i < run.len() {
-        let x = run[i];
-        let y = judge_triple(j, q, x);
-        run[i] = y;
-        i += 1;
+    for x in run.iter_mut() {
+        *x = judge_triple(j, q, *x);
     }
 }
 
@@ -244,11 +240,8 @@ fn step_all(run: &mut [u32], q: u32, code: &[u64]) -> u32
     ensures { result ∷ run.new ≡ word_steps label_count code.now (q ∷ run.old) }
 {
     let mut own = q;
-    let mut k = 0;
-    while k < code.len() {
-        let w = code[k];
-        own = word_all(run, w, own);
-        k += 1;
+    for w in code {
+        own = word_all(run, *w, own);
     }
     own
 }

@@ -1,14 +1,20 @@
 -- What a decision over tables with values answers is the outcome that the definitions ask. Assumes nothing.
-use mathlib.Core.Path.{◌≡◌, refl, sym, ap, ◌∙◌}
+use mathlib.Core.Path.{◌≡◌, refl, sym, ap, ◌∙◌, subst}
 use mathlib.Core.List.{List, map}
 use Prim.Native.Nat.{ℕ, ◌+◌}
 use lib.ListN.{length}
+use Rattle.std.specs.Prelude.{Option, Some, None, Result, Ok}
+use Rattle.std.specs.Option.{option_map}
+use Rattle.values.specs.First.{shown_by}
 use Rattle.labels.specs.Labels.{label_count}
 use Rattle.expression.specs.declared.Counts.{Counts}
-use Rattle.expression.specs.declared.Checked.TheVariants.{Passed, Refused as Stopped}
+use Rattle.expression.specs.declared.refusals.Refusal.{Refusal}
+use Rattle.expression.specs.Told.{outcome_of}
 use Rattle.expression.specs.declared.Outcome.{Outcome}
 use Rattle.expression.specs.declared.Outcome.TheVariants.{Yes, No, Refused}
-use Rattle.expression.specs.Checks.{Request, check}
+use Rattle.expression.specs.Checks.{Passed, Refused as Stopped, Request, check}
+use Rattle.checks.specs.declared.frames.Frame.{Frame}
+use Rattle.checks.specs.Frames.{frame_of}
 use Rattle.checks.proofs.Passing.{accepted}
 use Rattle.semantics.specs.AnswerSets.{by_masks}
 use Rattle.tables.specs.Definitions.{pairs, accepting}
@@ -33,6 +39,11 @@ use Rattle.engine.specs.Engine.{shown_outcome}
 newest-low : (us : List (List Entry)) → least_in label_count (newest (map (map lowered) us)) ≡ least_of (accepting label_count) (newest us)
 newest-low us = ap (least_in label_count) (newest-map lowered us)
 
+-- the mask of what is found
+pub shown-mapped : (n : ℕ) (x : Option ℕ) → outcome_of (Ok (option_map (shown_by n) x)) ≡ shown_outcome n (outcome_of (Ok x))
+shown-mapped n None = refl
+shown-mapped n (Some v) = refl
+
 module _ (a : Request) where
   -- ---- a check refuses
 
@@ -52,3 +63,9 @@ module _ (a : Request) where
     grounded-decided (Yes v) (us, e, l) = yes-outcome label_count a passed (pairs-walk ∙ ap (map_walked lowered) e) v (newest-low us ∙ l)
     grounded-decided No (us, e, l) = no-outcome label_count a passed (pairs-walk ∙ ap (map_walked lowered) e) (newest-low us ∙ l)
     grounded-decided (Refused n at) e = stopped-outcome label_count a passed (pairs-walk ∙ ap (map_walked lowered) e)
+
+    -- the same of what the code finds in the frame of the checks, and shows
+    module _ (f : Frame) (made : f ≡ frame_of z.deepest a.pair_limit a.subset_limit) where
+      pub grounded-framed : (r : Result (Option ℕ) Refusal) → Decides Pairs First (by_masks a.assumed_true a.assumed_false) f.width f.limit a.bytes (outcome_of r)
+          → shown_outcome z.atoms (outcome_of r) ≡ grounded_outcome label_count a
+      grounded-framed r decided = grounded-decided (outcome_of r) (subst (λ (g : Frame). Decides Pairs First (by_masks a.assumed_true a.assumed_false) g.width g.limit a.bytes (outcome_of r)) made decided)

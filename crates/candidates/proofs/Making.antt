@@ -3,7 +3,7 @@ use mathlib.Core.Path.{◌≡◌, refl, ap, ◌∙◌}
 use mathlib.Core.List.{List, [], ◌∷◌}
 use Prim.Native.Nat.{ℕ, ◌-◌, ◌≤◌, ◌<◌}
 use native.Mathlib.Omega.{arith}
-use lib.ListN.{get_or, length, take, drop, set, length-take, length-drop}
+use lib.ListN.{get_or, length, set, length-take, length-drop}
 use lib.Seq.{take-append-le}
 use borrow.Rule.Slice.PartMut.{put_mid, mid_of}
 use Rattle.runs.specs.Runs.{Filled}

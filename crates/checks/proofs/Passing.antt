@@ -5,9 +5,8 @@ use native.Mathlib.Nat.{mul-le-mul_left}
 use native.Mathlib.Omega.{arith}
 use Rattle.labels.specs.Labels.{label_count}
 use Rattle.expression.specs.declared.Counts.{Counts}
-use Rattle.expression.specs.declared.Checked.TheVariants.{Passed}
 use Rattle.expression.specs.Limits.{depth_limit, table_limit, areas_for, area_count, workspace_need}
-use Rattle.expression.specs.Checks.{Request, check, check_bytes, depth_of, need_of}
+use Rattle.expression.specs.Checks.{Passed, Request, check, check_bytes, depth_of, need_of}
 use Rattle.expression.proofs.Accepted.{Accepted, check-accepted}
 use Rattle.checks.specs.declared.frames.Frame.{Frame}
 use Rattle.checks.specs.Frames.{frame_of}

@@ -3,16 +3,17 @@ ghost use Rattle.std.specs.Prelude.{◌≡◌, cond, ◌+◌, ◌-◌, min, max,
 ghost use Rattle.expression.specs.Limits.{depth_limit, count_limit};
 ghost use Rattle.expression.specs.Refusals.{crowded, deep, bare};
 ghost use Rattle.expression.specs.declared.Effect.TheVariants.{Push};
+ghost use Rattle.expression.specs.Told.{fault_of};
 ghost use Rattle.expression.specs.Reading.{no_counts, counted_by, counted, capped, leaf_fault, count_fault};
 
 use crate::effects::effect;
-use expression::limits::{ATOM_LIMIT, COUNT_LIMIT, DEPTH_LIMIT, RULE_LIMIT};
-use expression::refusals::{BARE, CROWDED, DEEP};
+use expression::limits::{ATOM_LIMIT, DEPTH_LIMIT, RULE_LIMIT};
+use expression::refusals::Reason;
 use expression::{Command, Counts, Effect, Leaf};
 
-// The first of 9 to 11 that refuses a command after such counts; 0 where it passes.
-pub fn count_fault(n: Counts, c: Command) -> u64
-    ensures { result ≡ count_fault n c }
+// The first of 9 to 11 that refuses a command after such counts, if one does.
+pub fn count_fault(n: Counts, c: Command) -> Result<(), Reason>
+    ensures { fault_of result ≡ count_fault n c }
 {
     let e = effect(c);
     match e {
@@ -23,8 +24,8 @@ pub fn count_fault(n: Counts, c: Command) -> u64
     }
 }
 
-fn leaf_fault(n: Counts, l: Leaf) -> u64
-    ensures { result ≡ leaf_fault n l }
+fn leaf_fault(n: Counts, l: Leaf) -> Result<(), Reason>
+    ensures { fault_of result ≡ leaf_fault n l }
 {
     match l {
         Leaf::Atom => full_fault(n.atoms, ATOM_LIMIT, n.depth),
@@ -33,26 +34,26 @@ fn leaf_fault(n: Counts, l: Leaf) -> u64
 }
 
 // So many leaves of a kind, and operands: 9, then 10.
-fn full_fault(count: u64, limit: u64, depth: u64) -> u64
-    ensures { result ≡ cond (leb limit count) crowded (cond (leb depth_limit depth) deep 0) }
+fn full_fault(count: u64, limit: u64, depth: u64) -> Result<(), Reason>
+    ensures { fault_of result ≡ cond (leb limit count) crowded (cond (leb depth_limit depth) deep 0) }
 {
     if count >= limit {
-        return CROWDED;
+        return Err(Reason::Crowded);
     }
     if depth >= DEPTH_LIMIT {
-        return DEEP;
+        return Err(Reason::Deep);
     }
-    0
+    Ok(())
 }
 
 // A command on operands: 11.
-fn bare_fault(depth: u64, needed: u64) -> u64
-    ensures { result ≡ cond (ltb depth needed) bare 0 }
+fn bare_fault(depth: u64, needed: u64) -> Result<(), Reason>
+    ensures { fault_of result ≡ cond (ltb depth needed) bare 0 }
 {
     if depth < needed {
-        return BARE;
+        return Err(Reason::Bare);
     }
-    0
+    Ok(())
 }
 
 // The counts before the first command.
@@ -80,9 +81,8 @@ pub fn counted_by(n: Counts, e: Effect) -> Counts
 {
     match e {
         Effect::Push(l) => with_leaf(n, l),
-        Effect::Unite => at_depth(n.atoms, n.rules, one_less(n.depth), n.deepest),
-        Effect::Change => at_depth(n.atoms, n.rules, n.depth, n.deepest),
-        Effect::Pass => at_depth(n.atoms, n.rules, n.depth, n.deepest),
+        Effect::Unite => at_depth(n.atoms, n.rules, n.depth.saturating_sub(1), n.deepest),
+        Effect::Change | Effect::Pass => at_depth(n.atoms, n.rules, n.depth, n.deepest),
     }
 }
 
@@ -90,8 +90,18 @@ fn with_leaf(n: Counts, l: Leaf) -> Counts
     ensures { result ≡ capped (counted_by n (Push l)) }
 {
     match l {
-        Leaf::Atom => at_depth(one_more(n.atoms), n.rules, one_more(n.depth), n.deepest),
-        Leaf::Rule => at_depth(n.atoms, one_more(n.rules), one_more(n.depth), n.deepest),
+        Leaf::Atom => at_depth(
+            n.atoms.saturating_add(1),
+            n.rules,
+            n.depth.saturating_add(1),
+            n.deepest,
+        ),
+        Leaf::Rule => at_depth(
+            n.atoms,
+            n.rules.saturating_add(1),
+            n.depth.saturating_add(1),
+            n.deepest,
+        ),
     }
 }
 
@@ -102,24 +112,6 @@ fn at_depth(atoms: u64, rules: u64, depth: u64, deepest: u64) -> Counts
         atoms: atoms,
         rules: rules,
         depth: depth,
-        deepest: greater(deepest, depth),
+        deepest: deepest.max(depth),
     }
-}
-
-fn one_more(n: u64) -> u64
-    ensures { result ≡ min (n + 1) count_limit }
-{
-    if n < COUNT_LIMIT { n + 1 } else { n }
-}
-
-fn one_less(n: u64) -> u64
-    ensures { result ≡ n - 1 }
-{
-    if n > 0 { n - 1 } else { 0 }
-}
-
-fn greater(m: u64, n: u64) -> u64
-    ensures { result ≡ max m n }
-{
-    if m < n { n } else { m }
 }

@@ -1,5 +1,5 @@
 -- What a decision answers, on the way to its outcome. Assumes nothing.
-use Rattle.std.specs.Prelude.{◌≡◌, List, ℕ, length}
+use Rattle.std.specs.Prelude.{◌≡◌, List, Option, Some, None, ℕ, length}
 use Rattle.labels.specs.Labels.{label_count}
 use Rattle.expression.specs.declared.Outcome.{Outcome}
 use Rattle.expression.specs.declared.Outcome.TheVariants.{Yes, No, Refused}
@@ -10,8 +10,6 @@ use Rattle.decisions.specs.Decisions.{newest, stopped, walked}
 use Rattle.entries.specs.declared.Carry.{Carry}
 use Rattle.entries.specs.Carries.{Entry}
 use Rattle.leaves.specs.declared.Tables.{Tables}
-use Rattle.answers.specs.declared.Found.{Found}
-use Rattle.answers.specs.declared.Found.TheVariants as found
 use Rattle.answers.specs.Answers.{least_of}
 use Rattle.walks.specs.Walks.{walk_to}
 
@@ -22,6 +20,6 @@ Decides kind carry o w p s No = (us : List (List Entry)) × (walk_to kind carry 
 Decides kind carry o w p s (Refused n at) = walk_to kind carry o w p (length s) s ≡ stopped n at
 
 -- the outcome with the value that was found
-abbrev pub value_outcome : Found → Outcome
-value_outcome found.None = No
-value_outcome (found.Least v) = Yes v
+abbrev pub value_outcome : Option ℕ → Outcome
+value_outcome None = No
+value_outcome (Some v) = Yes v

@@ -3,31 +3,22 @@
 
 ghost use Rattle.std.specs.Prelude.{◌≡◌, ◌*◌, ◌≤◌, length};
 ghost use Rattle.expression.specs.Limits.{depth_limit, area_count};
+ghost use Rattle.expression.specs.Told.{outcome_of};
 ghost use Rattle.semantics.specs.AnswerSets.{by_masks};
 ghost use Rattle.rows.specs.Parts.{zeros};
 ghost use Rattle.leaves.specs.Leaves.{Wide};
 ghost use Rattle.workspace.specs.Workspace.{Roomy};
 ghost use Rattle.stacks.specs.Stacks.{cleared};
 ghost use Rattle.walks.specs.Walks.{Enough};
-ghost use Rattle.deciding.specs.Deciding.{value_outcome, Decides};
+ghost use Rattle.deciding.specs.Deciding.{Decides};
 
-use answers::Found;
+use checks::frames::Frame;
 use entries::Carry;
-use expression::Outcome;
+use expression::Pins;
+use expression::refusals::Refusal;
 use leaves::Tables;
-use walks::Reached;
 
-// Yes with the least value, or no.
-fn outcome_of(found: Found) -> Outcome
-    ensures { result ≡ value_outcome found }
-{
-    match found {
-        Found::None => Outcome::No,
-        Found::Least(v) => Outcome::Yes(v),
-    }
-}
-
-// All commands on tables of rows of w words in d areas, the first `need` words cleared before and after. Yes comes with the least value of what accepts.
+// All commands on tables in the frame, its needed words cleared before and after. Yes comes with the least value of what accepts.
 pub fn decide(
     s: &[u8],
     ws: &mut [u32],
@@ -37,21 +28,19 @@ pub fn decide(
     counts: &mut [u64],
     kind: Tables,
     carry: Carry,
-    d: usize,
-    w: usize,
-    p: usize,
-    need: usize,
-    assumed_true: u64,
-    assumed_false: u64,
-) -> Outcome
-    requires wide { Wide kind w × (w ≤ 4096) × (1 ≤ p) × (p ≤ 1024) × (length row.old ≡ w) × (p ≤ length index.old) }
-    requires roomy { Roomy carry d p vals.old × (counts.old ≡ zeros depth_limit) }
-    requires enough { Enough d s.now × (need ≤ length ws.old) × (d * (p * w) ≤ need) × (d ≤ area_count) }
-    ensures decides { Decides kind carry (by_masks assumed_true assumed_false) w p s.now result }
-    ensures ws_after { ws.new ≡ cleared need ws.old }
+    frame: Frame,
+    pins: Pins,
+) -> Result<Option<u64>, Refusal>
+    requires wide { Wide kind frame.width × (frame.width ≤ 4096) × (1 ≤ frame.limit) × (frame.limit ≤ 1024) × (length row.old ≡ frame.width) × (frame.limit ≤ length index.old) }
+    requires roomy { Roomy carry frame.areas frame.limit vals.old × (counts.old ≡ zeros depth_limit) }
+    requires enough { Enough frame.areas s.now × (frame.need ≤ length ws.old) × (frame.areas * (frame.limit * frame.width) ≤ frame.need) × (frame.areas ≤ area_count) }
+    ensures decides { Decides kind carry (by_masks pins.assumed_true pins.assumed_false) frame.width frame.limit s.now (outcome_of result) }
+    ensures ws_after { ws.new ≡ cleared frame.need ws.old }
 {
-    stacks::clear_need(ws, need);
-    let r = walks::walk(
+    let w = frame.width;
+    let p = frame.limit;
+    stacks::clear_need(ws, frame.need);
+    let reached = walks::walk(
         s,
         s.len(),
         ws,
@@ -61,22 +50,21 @@ pub fn decide(
         counts,
         kind,
         carry,
-        d,
+        frame.areas,
         w,
         p,
-        assumed_true,
-        assumed_false,
+        pins,
     );
-    match r {
-        Reached::Stopped(f, at, t) => {
-            stacks::clear_tables(ws, counts, w, p, t);
-            Outcome::Refused(f, at)
+    match reached {
+        Err(stop) => {
+            stacks::clear_tables(ws, counts, w, p, stop.tables);
+            Err(stop.refusal)
         }
-        Reached::Through(t) => {
+        Ok(t) => {
             let n = stacks::count_below(counts, t, 1);
             let found = answers::least_accepting(ws, vals, carry, w, p, 0, n);
             stacks::clear_tables(ws, counts, w, p, t);
-            outcome_of(found)
+            Ok(found)
         }
     }
 }

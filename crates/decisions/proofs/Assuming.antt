@@ -16,11 +16,9 @@ use Rattle.lists.proofs.Runs.{length_run, run_in}
 use Rattle.labels.specs.Sets.{has}
 use Rattle.labels.proofs.Sets.{has-and, has-none-zero, has-ge}
 use Rattle.expression.specs.declared.Counts.{Counts}
-use Rattle.expression.specs.declared.Checked.{Checked}
-use Rattle.expression.specs.declared.Checked.TheVariants.{Passed, Refused}
 use Rattle.expression.specs.Refusals.{absent}
 use Rattle.expression.specs.Reading.{Placed, reading}
-use Rattle.expression.specs.Checks.{Request, first_of, counts_of, absent_test, clash_test, checks, check}
+use Rattle.expression.specs.Checks.{Checked, Passed, Refused, Request, first_of, counts_of, absent_test, clash_test, checks, check}
 use Rattle.expression.proofs.Accepted.{Accepted, check-accepted}
 use Rattle.expression.proofs.Numbers.{check-number}
 use Rattle.semantics.specs.Expressions.{Expr, act_all, trees}

@@ -10,10 +10,9 @@ use borrow.Author.Tests.{le-ltb}
 use Rattle.lists.specs.Lists.{All, some}
 use Rattle.expression.specs.declared.Command.{Command}
 use Rattle.expression.specs.declared.Counts.{Counts}
-use Rattle.expression.specs.declared.Checked.TheVariants.{Passed, Refused}
 use Rattle.expression.specs.Refusals.{subsets_full, plans_full}
 use Rattle.expression.specs.Reading.{new_atoms, Placed, reading}
-use Rattle.expression.specs.Checks.{Request, check}
+use Rattle.expression.specs.Checks.{Passed, Refused, Request, check}
 use Rattle.semantics.specs.Expressions.{Operations, act}
 use Rattle.semantics.specs.AnswerSets.{Assumptions}
 use Rattle.tables.specs.Algebras.{Algebra, tables}

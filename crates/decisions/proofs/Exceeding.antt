@@ -12,10 +12,8 @@ use borrow.Author.Tests.{lt-ltb, ltb-true, ltb-false}
 use Rattle.lists.specs.Lists.{some}
 use Rattle.lists.proofs.Members.{some_of, some_is, not-true-false}
 use Rattle.expression.specs.declared.Counts.{Counts}
-use Rattle.expression.specs.declared.Checked.{Checked}
-use Rattle.expression.specs.declared.Checked.TheVariants.{Passed, Refused}
 use Rattle.expression.specs.Refusals.{subsets_full, plans_full}
-use Rattle.expression.specs.Checks.{Request, check}
+use Rattle.expression.specs.Checks.{Checked, Passed, Refused, Request, check}
 use Rattle.semantics.specs.Expressions.{Operations}
 use Rattle.tables.specs.Algebras.{tables}
 use Rattle.tables.specs.Definitions.{Pair, subsets, pairs, grounded_accepts}

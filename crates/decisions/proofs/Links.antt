@@ -1,6 +1,6 @@
 -- The table between the halves of a link (02, Item 11) exceeds no limit that the one before it met, and the table after it neither: so no refusal stands there,
 -- and none at a link. Assumes nothing.
-use mathlib.Core.Path.{◌≡◌, sym, ap, ◌∙◌}
+use mathlib.Core.Path.{◌≡◌, ap, ◌∙◌}
 use mathlib.Core.Logic.{◌⊎◌, inl, inr}
 use mathlib.Core.List.Memᴰ
 use mathlib.Core.List.{List, map}

@@ -7,12 +7,10 @@ use Prim.Native.Nat.{ℕ, suc, ◌≤◌, ◌<◌}
 use native.Mathlib.Omega.{arith}
 use lib.Dec.{ltb}
 use lib.ListN.{length}
-use Rattle.expression.specs.declared.Checked.{Checked}
-use Rattle.expression.specs.declared.Checked.TheVariants.{Passed, Refused}
 use Rattle.expression.specs.declared.Outcome.TheVariants as outcome
 use Rattle.expression.specs.Refusals.{absent, subsets_full, plans_full}
 use Rattle.expression.specs.Reading.{Placed, reading}
-use Rattle.expression.specs.Checks.{Request, check}
+use Rattle.expression.specs.Checks.{Checked, Passed, Refused, Request, check}
 use Rattle.expression.proofs.Numbers.{check-number}
 use Rattle.semantics.specs.Expressions.{Operations}
 use Rattle.tables.specs.Algebras.{tables}

@@ -4,10 +4,9 @@ use mathlib.Core.Path.{◌≡◌, refl, sym, ap, ◌∙◌, subst}
 use mathlib.Core.List.{List}
 use Prim.Native.Nat.{ℕ}
 use Rattle.expression.specs.declared.Counts.{Counts}
-use Rattle.expression.specs.declared.Checked.TheVariants.{Passed}
 use Rattle.expression.specs.declared.Outcome.{Outcome}
 use Rattle.expression.specs.declared.Outcome.TheVariants.{Yes, No, Refused}
-use Rattle.expression.specs.Checks.{Request, check}
+use Rattle.expression.specs.Checks.{Passed, Request, check}
 use Rattle.tables.specs.Definitions.{Pair, pairs}
 use Rattle.values.specs.Values.{Valued, none, worth}
 use Rattle.values.specs.First.{first_words, shown_by}

@@ -9,14 +9,13 @@ use Rattle.lists.specs.Lists.{some, products, run}
 use Rattle.lists.specs.Sorted.{compare_numbers, compare_lists, insert, insert_all, canon, set_of}
 use Rattle.labels.specs.Labels.{label_count}
 use Rattle.labels.specs.Sets.{has, without, replace}
-use Rattle.expression.specs.declared.Checked.TheVariants.{Passed, Refused as stop}
 use Rattle.expression.specs.declared.Outcome.{Outcome}
 use Rattle.expression.specs.declared.Outcome.TheVariants.{Yes, No, Refused}
 use Rattle.expression.specs.Limits.{table_limit, workspace_need}
 use Rattle.expression.specs.Commands.{one_operand, two_operands, is_command, operand_count, command_of, read_command, read_at}
 use Rattle.expression.specs.Effects.{effect}
 use Rattle.expression.specs.Reading.{no_counts, counted, count_fault, behind, read_from, reading}
-use Rattle.expression.specs.Checks.{Request, first_of, is_faulty, fault_number, fault_place, counts_of, is_limit, overlong_test, limits_test, cramped_test, clash_test, fault_test, unjoined_test, absent_test, checks, check, depth_of}
+use Rattle.expression.specs.Checks.{Passed, Refused as stop, Request, first_of, is_faulty, fault_number, fault_place, counts_of, is_limit, overlong_test, limits_test, cramped_test, clash_test, fault_test, unjoined_test, absent_test, checks, check, depth_of}
 use Rattle.semantics.specs.Expressions.{fold, unite_newest, change_newest, act, act_all, trees}
 use Rattle.semantics.specs.Programs.{numbers}
 use Rattle.semantics.specs.AnswerSets.{by_masks}

@@ -8,12 +8,10 @@ use native.Mathlib.Omega.{arith}
 use lib.ListN.{length}
 use Rattle.lists.specs.Lists.{All, run}
 use Rattle.expression.specs.declared.Counts.{Counts}
-use Rattle.expression.specs.declared.Checked.{Checked}
-use Rattle.expression.specs.declared.Checked.TheVariants.{Passed, Refused}
 use Rattle.expression.specs.Limits.{atom_limit}
 use Rattle.expression.specs.Commands.{Suits}
 use Rattle.expression.specs.Reading.{new_atoms, Placed, Reading, faulty, whole, no_counts, reading}
-use Rattle.expression.specs.Checks.{Request, is_faulty, counts_of, check}
+use Rattle.expression.specs.Checks.{Checked, Passed, Refused, Request, is_faulty, counts_of, check}
 use Rattle.expression.proofs.Accepted.{check-accepted}
 use Rattle.semantics.specs.Expressions.{Expr, Operations, act, act_all, trees}
 use Rattle.semantics.specs.Programs.{numbers}

@@ -7,9 +7,8 @@ use Prim.Native.Nat.{ℕ}
 use native.Mathlib.Omega.{arith}
 use Rattle.lists.specs.Lists.{run}
 use Rattle.expression.specs.declared.Counts.{Counts}
-use Rattle.expression.specs.declared.Checked.TheVariants.{Passed}
 use Rattle.expression.specs.Reading.{reading}
-use Rattle.expression.specs.Checks.{Request, counts_of, check}
+use Rattle.expression.specs.Checks.{Passed, Request, counts_of, check}
 use Rattle.expression.proofs.Accepted.{check-accepted}
 use Rattle.semantics.specs.Programs.{numbers}
 use Rattle.tables.specs.Algebras.{table}

@@ -1,10 +1,9 @@
 -- The outcome of the grounded and of the plain decision (01, Tables and Outcomes), over K labels. Assumes nothing.
 use Rattle.std.specs.Prelude.{Bool, true, false, cond, List, [], ◌∷◌, map, ℕ, zero, suc, ◌+◌, ◌^◌, ◌<◌, ltb, length}
 use Rattle.lists.specs.Lists.{some}
-use Rattle.expression.specs.declared.Checked.TheVariants.{Passed, Refused}
 use Rattle.expression.specs.Refusals.{subsets_full, plans_full}
 use Rattle.expression.specs.Reading.{new_atoms, Placed, Reading, faulty, whole, reading}
-use Rattle.expression.specs.Checks.{Request, check}
+use Rattle.expression.specs.Checks.{Passed, Refused, Request, check}
 use Rattle.semantics.specs.Expressions.{Expr, rule, Operations, act, act_all, trees}
 use Rattle.semantics.specs.Programs.{numbers}
 use Rattle.semantics.specs.AnswerSets.{Assumptions, Obeys, AnswerSet, of_mask, by_masks}

@@ -2,12 +2,11 @@
 use Rattle.std.specs.Prelude.{◌≡◌, ◌⊎◌, ◌↔◌, ℕ, suc, ◌<◌, length, take, get_or}
 use mathlib.Core.List.{List, [], map, Memᴰ}
 use Rattle.expression.specs.declared.Counts.{Counts}
-use Rattle.expression.specs.declared.Checked.TheVariants.{Passed, Refused}
 use Rattle.expression.specs.declared.Outcome.{Outcome}
 use Rattle.expression.specs.declared.Outcome.TheVariants.{Yes}
 use Rattle.expression.specs.Refusals.{subsets_full, plans_full}
 use Rattle.expression.specs.Reading.{Placed, reading}
-use Rattle.expression.specs.Checks.{Request, check}
+use Rattle.expression.specs.Checks.{Passed, Refused, Request, check}
 use Rattle.semantics.specs.Expressions.{act_all}
 use Rattle.semantics.specs.AnswerSets.{Assumptions}
 use Rattle.tables.specs.Algebras.{tables}

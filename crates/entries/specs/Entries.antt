@@ -3,7 +3,7 @@ use Rattle.std.specs.Prelude.{◌≡◌, ℕ, ◌+◌, ◌<◌, ◌≤◌, List,
 use Rattle.lists.specs.Sorted.{insert}
 use Rattle.tables.specs.Definitions.{Pair}
 use Rattle.values.specs.declared.Value.{Value}
-use Rattle.values.specs.Values.{Valued, no_value}
+use Rattle.values.specs.Values.{no_value}
 use Rattle.rows.specs.Rows.{sorted_of, Indexed}
 use Rattle.labels.specs.Labels.{label_count}
 use Rattle.entries.specs.declared.Carry.{Carry}

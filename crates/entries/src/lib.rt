@@ -38,6 +38,7 @@ pub fn lesser(a: u64, b: u64) -> u64
 }
 
 // The value of either of two interpretations.
+#[tactic(auto, unfolding(values::specs::Consequences::consequences))]
 pub fn either(carry: Carry, a: Value, b: Value) -> Value
     ensures { result ≡ (carried_by carry).either a b }
 {
@@ -55,6 +56,7 @@ pub fn either(carry: Carry, a: Value, b: Value) -> Value
 }
 
 // The value of two parts of one interpretation.
+#[tactic(auto, unfolding(values::specs::Consequences::consequences))]
 pub fn together(carry: Carry, a: Value, b: Value) -> Value
     ensures { result ≡ (carried_by carry).together a b }
 {
@@ -90,26 +92,12 @@ pub fn value_at(vals: &[u64], carry: Carry, m: usize, i: usize) -> Value
     }
 }
 
-// x goes to the front, and every value one place up; the last falls out.
-fn push_front(part: &mut [u64], x: u64)
-    ensures { part.new ≡ take (length part.old) (x ∷ part.old) }
-{
-    let mut carried = x;
-    let mut i = 0;
-    while i < part.len() {
-        let t = part[i];
-        part[i] = carried;
-        carried = t;
-        i += 1;
-    }
-}
-
 // Of p words m are taken: x goes to place k of them, and those from there on one place up.
 fn push_word(vals: &mut [u64], p: usize, m: usize, k: usize, x: u64)
     requires { KeptWords p m vals.old × (k ≤ m) × (m < p) }
     ensures { KeptWords p (m + 1) vals.new × (take (m + 1) vals.new ≡ take k (take m vals.old) ++ x ∷ drop k (take m vals.old)) }
 {
-    push_front(&mut vals[k..m + 1], x);
+    runs::push_front(&mut vals[k..m + 1], x);
 }
 
 // Likewise the two words of v.

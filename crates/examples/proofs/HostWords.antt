@@ -3,8 +3,8 @@ use mathlib.Core.Path.{◌≡◌, refl}
 use mathlib.Core.List.{List, [], ◌∷◌, map}
 use Prim.Native.Nat.{ℕ}
 use Rattle.expression.specs.declared.Outcome.TheVariants as outcome
-use Rattle.reporting.specs.declared.Report.TheVariants as report
-use Rattle.records.specs.declared.Progress.TheVariants as progress
+use Rattle.reporting.specs.Report as report
+use Rattle.records.specs.Steps as walk
 use Rattle.host_words.specs.Answers.{returned, unless_short, answer_of}
 use Rattle.host_words.specs.Reported.{report_words_of}
 use Rattle.host_words.specs.Walked.{progress_words_of}
@@ -24,7 +24,7 @@ report-examples : map (λ r. report_words_of r lent) (report.Written 2 5 ∷ rep
 report-examples = refl
 
 -- the walk: 3 moved, 4 ended, 2 refused
-walk-examples : map (λ x. progress_words_of x lent) (progress.Moved ∷ progress.Ended ∷ progress.Refused 18 3 ∷ [])
+walk-examples : map (λ x. progress_words_of x lent) (walk.Moved ∷ walk.Ended ∷ walk.Refused 18 3 ∷ [])
     ≡ (3 ∷ 0 ∷ 0 ∷ 7 ∷ []) ∷ (4 ∷ 0 ∷ 0 ∷ 7 ∷ []) ∷ (2 ∷ 18 ∷ 3 ∷ 7 ∷ []) ∷ []
 walk-examples = refl
 

@@ -3,11 +3,10 @@ use mathlib.Core.Path.{◌≡◌, refl}
 use mathlib.Core.List.{List, [], ◌∷◌, ◌++◌, map}
 use Prim.Native.Nat.{ℕ, zero, suc}
 use Rattle.labels.specs.Labels.{label_count}
-use Rattle.expression.specs.declared.Checked.TheVariants.{Passed, Refused}
 use Rattle.expression.specs.Commands.{one_operand, two_operands, is_command, operand_count, command_of, read_command, read_at}
 use Rattle.expression.specs.Effects.{effect}
 use Rattle.expression.specs.Reading.{no_counts, counted, count_fault, behind, read_from, reading}
-use Rattle.expression.specs.Checks.{Request, first_of, is_faulty, fault_number, fault_place, counts_of, is_limit, overlong_test, limits_test, cramped_test, clash_test, fault_test, unjoined_test, absent_test, checks, check}
+use Rattle.expression.specs.Checks.{Passed, Refused, Request, first_of, is_faulty, fault_number, fault_place, counts_of, is_limit, overlong_test, limits_test, cramped_test, clash_test, fault_test, unjoined_test, absent_test, checks, check}
 
 -- a rule, and n more, each joined at once
 rules : ℕ → List ℕ

@@ -25,9 +25,7 @@ use Rattle.rows.specs.Rows.{row_of, table_of, rows_in}
 use Rattle.workspace.specs.Workspace.{stack_words, workspace_of, stack_counts, counts_of}
 use Rattle.forms.specs.Forms.{are_zero, rises_from, is_rising, is_row, are_rows, is_table, are_tables, tables_in}
 use Rattle.records.specs.declared.Record.{Record}
-use Rattle.records.specs.declared.Progress.{Progress}
-use Rattle.records.specs.declared.Progress.TheVariants.{Moved, Ended, Refused}
-use Rattle.records.specs.Steps.{Step, stays, start_record, is_formed, formed_at, moves, move_to, command, step, start, conclusion, verdict}
+use Rattle.records.specs.Steps.{Answer, Moved, Ended, Refused, Step, stays, start_record, is_formed, formed_at, moves, move_to, command, step, start, conclusion, verdict}
 
 -- a call: the sheet, P, G and the pins; the record with its first three counts, and the words
 record Call : Type 0 where
@@ -84,7 +82,7 @@ record Start : Type 0 where
   asks : Call
   leaves : Step
 
-leaving : Record → Progress → List ℕ → Step
+leaving : Record → Answer → List ℕ → Step
 leaving r x ws = record { state = r; answer = x; words = ws }
 
 starts : List Start
@@ -139,10 +137,10 @@ step-examples = refl
 
 record Still : Type 0 where
   asks : Call
-  answers : Progress
+  answers : Answer
   concludes : Outcome
 
-still : Call → Progress → Outcome → Still
+still : Call → Answer → Outcome → Still
 still c x o = record { asks = c; answers = x; concludes = o }
 
 -- 18 by step and verdict, at the record's place

@@ -8,10 +8,9 @@ use lib.ListN.{length}
 use borrow.Author.Tests.{eqb-true, ltb-true, ltb-false, not-false}
 use Rattle.lists.proofs.Members.{and_both}
 use Rattle.expression.specs.declared.Counts.{Counts}
-use Rattle.expression.specs.declared.Checked.TheVariants.{Passed}
 use Rattle.expression.specs.Limits.{byte_limit, table_limit}
 use Rattle.expression.specs.Reading.{reading}
-use Rattle.expression.specs.Checks.{Request, counts_of, is_limit, overlong_test, limits_test, cramped_test, clash_test, fault_test, unjoined_test, absent_test, checks, check, check_bytes, depth_of, need_of}
+use Rattle.expression.specs.Checks.{Passed, Request, counts_of, is_limit, overlong_test, limits_test, cramped_test, clash_test, fault_test, unjoined_test, absent_test, checks, check, check_bytes, depth_of, need_of}
 use Rattle.expression.proofs.Checks.{passed-all, passes, none_left, Joined, bytes-joined, limit-tested}
 
 pub record Accepted (K : ℕ) (a : Request) (n : Counts) : Type 0 where

@@ -12,15 +12,12 @@ use borrow.Author.Tests.{eq-eqb, ne_eqb, eqb-true, ltb-true, ltb-false, not-fals
 use Rattle.lists.specs.Lists.{All}
 use Rattle.lists.proofs.Members.{and_both}
 use Rattle.expression.specs.declared.Command.{Command}
-use Rattle.expression.specs.declared.Read.TheVariants.{Command as Got, Fault}
 use Rattle.expression.specs.declared.Counts.{Counts}
-use Rattle.expression.specs.declared.Checked.{Checked}
-use Rattle.expression.specs.declared.Checked.TheVariants.{Passed, Refused}
 use Rattle.expression.specs.Limits.{byte_limit, depth_limit, table_limit, area_words, count_limit, areas_for, area_count, workspace_need}
 use Rattle.expression.specs.Refusals.{overlong, unjoined}
-use Rattle.expression.specs.Commands.{read_at}
+use Rattle.expression.specs.Commands.{Got, Fault, read_at}
 use Rattle.expression.specs.Reading.{no_counts, counted, capped, count_fault, Placed, Reading, faulty, whole, behind, read_from, reading}
-use Rattle.expression.specs.Checks.{Test, first_of, is_faulty, fault_number, fault_place, counts_of, is_limit, overlong_test, fault_test, unjoined_test, check_bytes, check_sheet}
+use Rattle.expression.specs.Checks.{Checked, Passed, Refused, Test, first_of, is_faulty, fault_number, fault_place, counts_of, is_limit, overlong_test, fault_test, unjoined_test, check_bytes, check_sheet}
 use Rattle.expression.proofs.Commands.{read-ends}
 use Rattle.expression.proofs.Totals.{AtMost, none-at-most, counted-at-most, capped_same, Limited}
 use Rattle.expression.proofs.Readings.{from_end, from-fault, from-count-fault, from_step, reading-limited}

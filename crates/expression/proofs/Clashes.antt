@@ -9,12 +9,10 @@ use native.Mathlib.Omega.{arith}
 use lib.Bits.{bit_and}
 use lib.Dec.{eqb}
 use borrow.Author.Tests.{eq-eqb, ne_eqb, eqb-true, eqb-false}
-use Rattle.expression.specs.declared.Checked.{Checked}
-use Rattle.expression.specs.declared.Checked.TheVariants.{Passed, Refused}
 use Rattle.expression.specs.Limits.{depth_limit}
 use Rattle.expression.specs.Refusals.{clash}
 use Rattle.expression.specs.Reading.{Reading, reading}
-use Rattle.expression.specs.Checks.{Request, Test, first_of, counts_of, overlong_test, limits_test, cramped_test, clash_test, fault_test, unjoined_test, absent_test}
+use Rattle.expression.specs.Checks.{Checked, Passed, Refused, Request, Test, first_of, counts_of, overlong_test, limits_test, cramped_test, clash_test, fault_test, unjoined_test, absent_test}
 use Rattle.expression.proofs.Checks.{Pass, passed-all, first_else}
 use Rattle.expression.proofs.Numbers.{reading-number}
 use Rattle.expression.proofs.Moving.{else-only, moved_passes, moved-behind, refused-before, refused-after}

@@ -13,10 +13,9 @@ use Rattle.expression.specs.declared.Kind.TheVariants.{Head, Positive, Negative}
 use Rattle.expression.specs.declared.Role.TheVariants.{Derived, External}
 use Rattle.expression.specs.declared.Command.{Command}
 use Rattle.expression.specs.declared.Command.TheVariants.{Rule, Union, Relabel, Connect, Name}
-use Rattle.expression.specs.declared.Read.TheVariants.{Command as Got, Fault}
 use Rattle.expression.specs.Limits.{byte_limit, name_length}
 use Rattle.expression.specs.Refusals.{unknown, cut, group, same}
-use Rattle.expression.specs.Commands.{one_operand, two_operands, is_name, is_command, operand_count, tail_length, name_start, atom_of, command_of, read_command, read_at}
+use Rattle.expression.specs.Commands.{Got, Fault, one_operand, two_operands, is_name, is_command, operand_count, tail_length, name_start, atom_of, command_of, read_command, read_at}
 
 -- ---- how many bytes stand behind a command byte
 

@@ -10,13 +10,11 @@ use native.Mathlib.Omega.{arith}
 use lib.Dec.{ltb}
 use borrow.Author.Tests.{ltb-true, ltb-false, lt-ltb, le-ltb}
 use Rattle.expression.specs.declared.Counts.{Counts}
-use Rattle.expression.specs.declared.Checked.{Checked}
-use Rattle.expression.specs.declared.Checked.TheVariants.{Passed, Refused}
 use Rattle.expression.specs.declared.Outcome.TheVariants as outcome
 use Rattle.expression.specs.Limits.{depth_limit, area_words, workspace_need}
 use Rattle.expression.specs.Refusals.{limits, cramped}
 use Rattle.expression.specs.Reading.{Reading, no_counts, faulty, whole, reading}
-use Rattle.expression.specs.Checks.{Request, Test, first_of, counts_of, overlong_test, limits_test, cramped_test, clash_test, fault_test, unjoined_test, absent_test, checks, check, check_bytes, check_sheet, depth_of, need_of, depth_told, depth_outcome}
+use Rattle.expression.specs.Checks.{Checked, Passed, Refused, Request, Test, first_of, counts_of, overlong_test, limits_test, cramped_test, clash_test, fault_test, unjoined_test, absent_test, checks, check, check_bytes, check_sheet, depth_of, need_of, depth_told, depth_outcome}
 use Rattle.expression.proofs.Readings.{reading-limited}
 use Rattle.expression.proofs.Checks.{Pass, refuses, passes, passed-all, first_else, else-pass, else-refuse, bytes-refuse}
 use Rattle.expression.proofs.Moving.{moved_passes, moved-behind, refused-before, passed-after, refused-after}

@@ -6,17 +6,14 @@ use Prim.Native.Nat.{ℕ, zero, suc, ◌^◌}
 use lib.Dec.{eqb}
 use Rattle.lists.specs.Lists.{every}
 use Rattle.labels.specs.Labels.{label_count}
-use Rattle.expression.specs.declared.Checked.{Checked}
-use Rattle.expression.specs.declared.Checked.TheVariants.{Passed, Refused}
 use Rattle.expression.specs.declared.Outcome.TheVariants as outcome
-use Rattle.expression.specs.declared.Naming.TheVariants as naming
-use Rattle.expression.specs.declared.Naming.TheVariants.{Named, Nameless}
+use Rattle.expression.specs.Names as naming
 use Rattle.expression.specs.Limits.{workspace_need}
 use Rattle.expression.specs.Commands.{one_operand, two_operands, is_command, operand_count, command_of, read_command, read_at}
 use Rattle.expression.specs.Effects.{effect}
 use Rattle.expression.specs.Reading.{no_counts, counted, count_fault, behind, read_from, reading}
-use Rattle.expression.specs.Checks.{Request, first_of, is_faulty, fault_number, fault_place, counts_of, is_limit, overlong_test, limits_test, cramped_test, clash_test, fault_test, unjoined_test, absent_test, checks, check, check_sheet, depth_of, depth_outcome}
-use Rattle.expression.specs.Names.{called_by, called_from, called, called_in, name_of, bytes_named}
+use Rattle.expression.specs.Checks.{Checked, Passed, Refused, Request, first_of, is_faulty, fault_number, fault_place, counts_of, is_limit, overlong_test, limits_test, cramped_test, clash_test, fault_test, unjoined_test, absent_test, checks, check, check_sheet, depth_of, depth_outcome}
+use Rattle.expression.specs.Names.{Named, Nameless, called_by, called_from, called, called_in, name_of, bytes_named}
 
 same : Checked → Checked → Bool
 same (Passed y) (Passed z) = eqb y.atoms z.atoms && eqb y.rules z.rules && eqb y.depth z.depth && eqb y.deepest z.deepest

@@ -10,3 +10,4 @@ pub mod Clashes
 pub mod Cramped
 pub mod Remaining
 pub mod Examples
+pub mod Told

@@ -5,9 +5,7 @@ use mathlib.Core.List.{List, [], ◌∷◌, ◌++◌}
 use Prim.Native.Nat.{ℕ}
 use Rattle.lists.specs.Lists.{All}
 use Rattle.expression.specs.declared.Counts.{Counts}
-use Rattle.expression.specs.declared.Checked.{Checked}
-use Rattle.expression.specs.declared.Checked.TheVariants.{Refused}
-use Rattle.expression.specs.Checks.{Test, first_of}
+use Rattle.expression.specs.Checks.{Checked, Refused, Test, first_of}
 use Rattle.expression.proofs.Checks.{Pass, first_else, first-append, else-pass, else-refuse}
 
 -- where none of them has the number of x, x is the answer only if none refuses

@@ -13,16 +13,13 @@ use Rattle.expression.specs.declared.Command.TheVariants.{Name}
 use Rattle.expression.specs.declared.Leaf.TheVariants as leaf
 use Rattle.expression.specs.declared.Effect.{Effect}
 use Rattle.expression.specs.declared.Effect.TheVariants.{Push, Unite, Change, Pass}
-use Rattle.expression.specs.declared.Read.{Read}
-use Rattle.expression.specs.declared.Read.TheVariants.{Command as Got, Fault}
 use Rattle.expression.specs.declared.Counts.{Counts}
-use Rattle.expression.specs.declared.Checked.TheVariants.{Refused}
 use Rattle.expression.specs.Limits.{atom_limit, rule_limit, depth_limit}
 use Rattle.expression.specs.Refusals.{unknown, cut, group, same, crowded, deep, bare, absent}
-use Rattle.expression.specs.Commands.{one_operand, two_operands, is_name, is_command, tail_length, name_start, command_of, read_command, read_at}
+use Rattle.expression.specs.Commands.{Read, Got, Fault, one_operand, two_operands, is_name, is_command, tail_length, name_start, command_of, read_command, read_at}
 use Rattle.expression.specs.Effects.{effect}
 use Rattle.expression.specs.Reading.{no_counts, counted, fault_by, count_fault, Placed, Reading, faulty, whole, behind, read_from, reading}
-use Rattle.expression.specs.Checks.{Request, Test, first_of, is_faulty, fault_number, overlong_test, limits_test, cramped_test, clash_test, fault_test, unjoined_test, absent_test, checks, check}
+use Rattle.expression.specs.Checks.{Refused, Request, Test, first_of, is_faulty, fault_number, overlong_test, limits_test, cramped_test, clash_test, fault_test, unjoined_test, absent_test, checks, check}
 use Rattle.expression.proofs.Readings.{from_end, from-fault, from-count-fault, from_step}
 
 abbrev Among : ℕ → ℕ → ℕ → Type 0

@@ -1,4 +1,5 @@
 -- Laws of the walk that finds an offset: its start, one step, a fault, and the offset asked. Assumes nothing.
+use Rattle.std.specs.Prelude.{Some, None}
 use mathlib.Core.Path.{◌≡◌, refl, sym, ◌∙◌, subst}
 use mathlib.Core.List.{List}
 use Prim.Native.Nat.{ℕ, zero, suc, ◌+◌, ◌≤◌, ◌<◌}
@@ -6,11 +7,9 @@ use native.Mathlib.Omega.{arith}
 use lib.ListN.{length}
 use borrow.Author.Tests.{eq-eqb, ne_eqb}
 use Rattle.expression.specs.declared.Command.{Command}
-use Rattle.expression.specs.declared.Read.TheVariants.{Command as Got, Fault}
 use Rattle.expression.specs.declared.Counts.{Counts}
-use Rattle.expression.specs.declared.Located.TheVariants.{Before, Nowhere}
 use Rattle.expression.specs.Limits.{count_limit}
-use Rattle.expression.specs.Commands.{read_at}
+use Rattle.expression.specs.Commands.{Got, Fault, read_at}
 use Rattle.expression.specs.Reading.{no_counts, counted, capped}
 use Rattle.expression.specs.Places.{locate_from, locate}
 use Rattle.expression.proofs.Commands.{read-ends}
@@ -35,12 +34,12 @@ module _ (K : ℕ) (s : List ℕ) (asked : ℕ) where
         let v = counted-at-most at next n c w b.0 in
         subst (Ahead next) (sym (f ∙ capped_same next (counted n c) v (omega arith))) (b.1, v, (k, omega arith, rw (ne_eqb at asked further, e, locate_from) at p))
 
-    pub ahead-fault : (f : ℕ) → read_at K s at ≡ Fault f → Ahead at n → Nowhere ≡ locate K s asked
+    pub ahead-fault : (f : ℕ) → read_at K s at ≡ Fault f → Ahead at n → None ≡ locate K s asked
     unfolding locate_from
     ahead-fault f e (h, w, (zero, g, p)) = absurd (omega arith)
     ahead-fault f e (h, w, (suc k, g, p)) = rw (ne_eqb at asked further, e, locate_from) at p
 
-  pub ahead-here : (at : ℕ) (n : Counts) → at ≡ asked → Ahead at n → Before n ≡ locate K s asked
+  pub ahead-here : (at : ℕ) (n : Counts) → at ≡ asked → Ahead at n → Some n ≡ locate K s asked
   unfolding locate_from
   ahead-here at n e (h, w, (zero, g, p)) = absurd (omega arith)
   ahead-here at n e (h, w, (suc k, g, p)) = rw (eq-eqb at asked e, locate_from) at p

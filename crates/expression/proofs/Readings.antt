@@ -8,10 +8,8 @@ use lib.Dec.{ltb}
 use lib.ListN.{length}
 use borrow.Author.Tests.{lt-ltb, le-ltb, ltb-true, ltb-false}
 use Rattle.expression.specs.declared.Command.{Command}
-use Rattle.expression.specs.declared.Read.{Read}
-use Rattle.expression.specs.declared.Read.TheVariants.{Command as Got, Fault}
 use Rattle.expression.specs.declared.Counts.{Counts}
-use Rattle.expression.specs.Commands.{read_at}
+use Rattle.expression.specs.Commands.{Read, Got, Fault, read_at}
 use Rattle.expression.specs.Reading.{no_counts, counted, count_fault, Placed, Reading, faulty, whole, behind, read_from, reading}
 use Rattle.expression.proofs.Totals.{Limited, none-limited, counted-limited}
 

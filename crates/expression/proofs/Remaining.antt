@@ -5,9 +5,8 @@ use Prim.Native.Nat.{ℕ, zero, suc, ◌+◌, ◌≤◌, ◌<◌}
 use native.Mathlib.Omega.{arith}
 use lib.ListN.{length}
 use Rattle.expression.specs.declared.Command.{Command}
-use Rattle.expression.specs.declared.Read.TheVariants.{Command as Got}
 use Rattle.expression.specs.declared.Counts.{Counts}
-use Rattle.expression.specs.Commands.{read_at}
+use Rattle.expression.specs.Commands.{Got, read_at}
 use Rattle.expression.specs.Effects.{effect, depth_by}
 use Rattle.expression.specs.Reading.{no_counts, counted, count_fault, Placed, whole, read_from, reading}
 use Rattle.expression.proofs.Commands.{read-ends}

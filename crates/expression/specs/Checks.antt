@@ -2,8 +2,6 @@
 use Rattle.std.specs.Prelude.{Bool, true, false, cond, not, ◌&&◌, List, [], ◌∷◌, ℕ, ◌+◌, ◌^◌, eqb, ltb, length}
 use Rattle.std.specs.Int.Bits.{bit_and}
 use Rattle.expression.specs.declared.Counts.{Counts}
-use Rattle.expression.specs.declared.Checked.{Checked}
-use Rattle.expression.specs.declared.Checked.TheVariants.{Passed, Refused}
 use Rattle.expression.specs.declared.Outcome.{Outcome}
 use Rattle.expression.specs.declared.Outcome.TheVariants as outcome
 use Rattle.expression.specs.Limits.{byte_limit, table_limit, workspace_need}
@@ -18,6 +16,11 @@ pub record Request : Type 0 where
   pub room : ℕ
   pub assumed_true : ℕ
   pub assumed_false : ℕ
+
+-- all tests passed, with the counts of the whole expression; or the number and the place of the first refusal
+pub data Checked : Type 0 where
+  Passed : Counts → Checked
+  Refused : ℕ → ℕ → Checked
 
 -- a test: whether it refuses, by which number and at which place
 pub record Test : Type 0 where

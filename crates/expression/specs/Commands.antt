@@ -5,10 +5,13 @@ use Rattle.expression.specs.declared.Role.{Role}
 use Rattle.expression.specs.declared.Role.TheVariants.{Derived, External}
 use Rattle.expression.specs.declared.Command.{Command}
 use Rattle.expression.specs.declared.Command.TheVariants.{Atom, Rule, Union, Relabel, Connect, Name}
-use Rattle.expression.specs.declared.Read.{Read}
-use Rattle.expression.specs.declared.Read.TheVariants.{Command as Got, Fault}
 use Rattle.expression.specs.Limits.{name_length}
 use Rattle.expression.specs.Refusals.{unknown, cut, group, same}
+
+-- what stands at an offset: a command and the offset after it, or the number of a refusal
+pub data Read : Type 0 where
+  Got : Command → ℕ → Read
+  Fault : ℕ → Read
 
 -- 11 g, 12 g and 13 g; 31, 41, 42, 43 then i j
 unfoldable pub one_operand : ℕ → Bool

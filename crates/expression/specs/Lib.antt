@@ -1,9 +1,10 @@
 pub mod Limits
 pub mod Refusals
+pub mod Outcomes
 pub mod Commands
 pub mod Effects
 pub mod Reading
 pub mod Checks
 pub mod Places
 pub mod Names
-pub mod Outcomes
+pub mod Told

@@ -8,16 +8,19 @@ use Rattle.expression.specs.declared.Leaf.{Leaf}
 use Rattle.expression.specs.declared.Leaf.TheVariants as leaf
 use Rattle.expression.specs.declared.Effect.{Effect}
 use Rattle.expression.specs.declared.Effect.TheVariants.{Push, Unite, Change, Pass}
-use Rattle.expression.specs.declared.Checked.{Checked}
-use Rattle.expression.specs.declared.Checked.TheVariants as checked
-use Rattle.expression.specs.declared.Naming.{Naming}
-use Rattle.expression.specs.declared.Naming.TheVariants.{Named, Nameless, Refused}
+use Rattle.expression.specs.Checks as checked
 use Rattle.expression.specs.declared.Outcome.{Outcome}
 use Rattle.expression.specs.declared.Outcome.TheVariants as outcome
 use Rattle.expression.specs.Limits.{name_length}
 use Rattle.expression.specs.Effects.{effect}
 use Rattle.expression.specs.Reading.{new_atoms, Reading, faulty, whole, reading}
-use Rattle.expression.specs.Checks.{check_sheet}
+use Rattle.expression.specs.Checks.{Checked, check_sheet}
+
+-- what an atom is called: its name's first byte is at an offset, it has no name, or a refusal with its number and place
+pub data Naming : Type 0 where
+  Named : ℕ → Naming
+  Nameless : Naming
+  Refused : ℕ → ℕ → Naming
 
 -- whether a leaf is atom c, where n atoms came before it
 abbrev pub is_atom : ℕ → ℕ → Leaf → Bool

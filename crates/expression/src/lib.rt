@@ -2,6 +2,11 @@
 // definitions are in specs/, the laws in proofs/.
 #![tactic(auto)]
 
+ghost use Rattle.std.specs.Prelude.{◌≡◌};
+ghost use Rattle.expression.specs.Told.{outcome_of};
+
+use crate::refusals::Refusal;
+
 pub mod limits;
 pub mod refusals;
 
@@ -54,13 +59,6 @@ pub enum Effect {
     Pass,
 }
 
-// What stands at an offset: a command and the offset after it, or the number of a refusal.
-#[derive(Clone, Copy)]
-pub enum Read {
-    Command(Command, usize),
-    Fault(u64),
-}
-
 // What the commands so far leave: how many atoms and rules, how many operands on the stack, and the most there were at once.
 #[derive(Clone, Copy)]
 pub struct Counts {
@@ -70,32 +68,29 @@ pub struct Counts {
     pub deepest: u64,
 }
 
-// All tests passed, with the counts of the whole expression; or the number and the place of the first refusal.
+// The atoms that are assumed true and false, as masks (01: pins in and out).
 #[derive(Clone, Copy)]
-pub enum Checked {
-    Passed(Counts),
-    Refused(u64, usize),
+pub struct Pins {
+    pub assumed_true: u64,
+    pub assumed_false: u64,
 }
 
-// An offset that a walk over the commands comes to, with the counts before it; or one that it passes by.
-#[derive(Clone, Copy)]
-pub enum Located {
-    Before(Counts),
-    Nowhere,
-}
-
-// What an atom is called (02, Item 1): its name's first byte is at an offset, it has no name, or a refusal with its number and place.
-#[derive(Clone, Copy)]
-pub enum Naming {
-    Named(usize),
-    Nameless,
-    Refused(u64, usize),
-}
-
-// A decision: yes with a plan as a mask, no, or a refusal with its number and place.
+// A decision: yes with a plan as a mask, no, or a refusal with its number and place. One enum with data, since 01 names this form for what a host is told.
 #[derive(Clone, Copy)]
 pub enum Outcome {
     Yes(u64),
     No,
     Refused(u64, usize),
+}
+
+impl From<Result<Option<u64>, Refusal>> for Outcome {
+    ghost from_gives = { λ r o. o ≡ outcome_of r };
+
+    fn from(r: Result<Option<u64>, Refusal>) -> Outcome {
+        match r {
+            Ok(Some(mask)) => Outcome::Yes(mask),
+            Ok(None) => Outcome::No,
+            Err(e) => Outcome::Refused(e.reason.number(), e.place),
+        }
+    }
 }

@@ -18,6 +18,3 @@ pub const AREAS: usize = DEPTH_LIMIT as usize + 1;
 
 // The most that the limits P and G may be.
 pub const TABLE_LIMIT: u64 = 1024;
-
-// The greatest count that is kept.
-pub const COUNT_LIMIT: u64 = 0xffffffffffffffff;

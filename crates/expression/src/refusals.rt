@@ -1,37 +1,53 @@
-// The refusals' numbers, under the words of 01's table (Outcomes).
+// Why a request is refused (01's table, Outcomes).
+ghost use Rattle.std.specs.Prelude.{◌≡◌};
+ghost use Rattle.expression.specs.Refusals.{number_of};
+ghost use Rattle.expression.specs.declared.refusals.Refusal.{Refusal};
 
-pub const OVERLONG: u64 = 1;
+// In the order of the numbers that a host gets.
+#[derive(Clone, Copy, PartialEq, Eq)]
+pub enum Reason {
+    Overlong = 1,
+    Limits,
+    Cramped,
+    Clash,
+    Unknown,
+    Cut,
+    Group,
+    Same,
+    Crowded,
+    Deep,
+    Bare,
+    Unjoined,
+    Absent,
+    Offset,
+    SubsetsFull,
+    PlansFull,
+    ReportShort,
+    BadRecord,
+}
 
-pub const LIMITS: u64 = 2;
+impl Reason {
+    // Its number in the table.
+    pub fn number(self) -> u64
+        ensures { result ≡ number_of self }
+    {
+        self as u64
+    }
 
-pub const CRAMPED: u64 = 3;
+    // The refusal for it at a place.
+    pub fn at(self, place: usize) -> Refusal
+        ensures { result ≡ record { reason = self; place = place } }
+    {
+        Refusal {
+            reason: self,
+            place,
+        }
+    }
+}
 
-pub const CLASH: u64 = 4;
-
-pub const UNKNOWN: u64 = 5;
-
-pub const CUT: u64 = 6;
-
-pub const GROUP: u64 = 7;
-
-pub const SAME: u64 = 8;
-
-pub const CROWDED: u64 = 9;
-
-pub const DEEP: u64 = 10;
-
-pub const BARE: u64 = 11;
-
-pub const UNJOINED: u64 = 12;
-
-pub const ABSENT: u64 = 13;
-
-pub const OFFSET: u64 = 14;
-
-pub const SUBSETS_FULL: u64 = 15;
-
-pub const PLANS_FULL: u64 = 16;
-
-pub const REPORT_SHORT: u64 = 17;
-
-pub const BAD_RECORD: u64 = 18;
+// A refusal: its reason and its place.
+#[derive(Clone, Copy, PartialEq, Eq)]
+pub struct Refusal {
+    pub reason: Reason,
+    pub place: usize,
+}

@@ -6,17 +6,14 @@ use mathlib.Core.Bool.{or-false}
 use mathlib.Core.List.Memᴰ
 use mathlib.Core.List.{List, [], ◌∷◌, ◌++◌, Memᴰ}
 use Prim.Native.Nat.{ℕ}
-use lib.Dec.{eqb}
 use borrow.Author.Tests.{ne_eqb}
 use Rattle.lists.specs.Lists.{All}
-use Rattle.expression.specs.declared.Role.TheVariants.{Derived}
 use Rattle.expression.specs.declared.NewAtom.{NewAtom}
 use Rattle.expression.specs.declared.Command.{Command}
 use Rattle.expression.specs.declared.Command.TheVariants.{Atom, Rule, Union, Relabel, Connect, Name}
-use Rattle.expression.specs.declared.Checked.TheVariants.{Passed, Refused}
 use Rattle.expression.specs.Commands.{one_operand, command_of}
 use Rattle.expression.specs.Reading.{reading}
-use Rattle.expression.specs.Checks.{Request, check}
+use Rattle.expression.specs.Checks.{Passed, Refused, Request, check}
 use Rattle.semantics.specs.Expressions.{Expr, unite_newest, change_newest, act, act_all, trees}
 use Rattle.semantics.specs.Programs.{externals}
 use Rattle.semantics.specs.AnswerSets.{Interpretation, Assumptions, AnswerSet}

@@ -9,8 +9,8 @@ use lib.Dec.{eqb, ltb, leb}
 use lib.ListN.{length, take, drop, get_or, get_or-replicate, length-append, length-drop, take-append-drop}
 use lib.Seq.{length-take-le, take-take, take-add, drop_at}
 use borrow.Author.Tests.{eqb-true, leb-true}
-use Rattle.lists.specs.declared.Order.{Order}
-use Rattle.lists.specs.declared.Order.TheVariants.{Less, Same, More}
+use Rattle.std.specs.declared.cmp.Ordering.{Ordering}
+use Rattle.std.specs.declared.cmp.Ordering.TheVariants.{Less, Equal, Greater}
 use Rattle.lists.specs.Lists.{every, All}
 use Rattle.lists.specs.Sorted.{by_order, compare_numbers, compare_lists, Rising}
 use Rattle.lists.proofs.Members.{and_both, all_append}
@@ -34,13 +34,13 @@ zero_is (x ∷ xs) h =
     let b = and_both (eqb x 0) (every (λ v. eqb v 0) xs) h in
     ap₂ {C = List ℕ} (λ y l. y ∷ l) (eqb-true x 0 b.0) (zero_is xs b.1)
 
-before-is : (o : Order) → by_order o true false false ≡ true → o ≡ Less
+before-is : (o : Ordering) → by_order o true false false ≡ true → o ≡ Less
 before-is Less h = refl
-before-is Same h = absurd (false≢true h)
-before-is More h = absurd (false≢true h)
+before-is Equal h = absurd (false≢true h)
+before-is Greater h = absurd (false≢true h)
 
 -- an element that comes before the next one comes before all later ones
-module _ {A : Type 0} {cmp : A → A → Order} {merge : A → A → A} (L : Lawful cmp merge) where
+module _ {A : Type 0} {cmp : A → A → Ordering} {merge : A → A → A} (L : Lawful cmp merge) where
   below : (x y : A) (ys : List A) → cmp x y ≡ Less → All (λ z. cmp y z ≡ Less) ys → All (λ z. cmp x z ≡ Less) ys
   below x y [] h a = tt
   below x y (z ∷ zs) h a = (L.trans x y z h a.0, below x y zs h a.1)

@@ -8,8 +8,8 @@ use native.Mathlib.Omega.{arith}
 use lib.Dec.{eqb, ltb, leb}
 use lib.ListN.{length, take, drop, get_or, length-drop, drop_of_length-le}
 use lib.Seq.{drop-cons, take_all}
-use borrow.Author.Tests.{eq-eqb, ne_eqb, lt-ltb, le-ltb, le-leb, lt-leb, leb-true, leb-false}
-use Rattle.lists.specs.declared.Order.TheVariants.{Less, Same, More}
+use borrow.Author.Tests.{lt-ltb, le-ltb, le-leb, lt-leb, leb-true, leb-false}
+use Rattle.std.specs.declared.cmp.Ordering.TheVariants.{Less, Equal, Greater}
 use Rattle.lists.specs.Lists.{every}
 use Rattle.lists.specs.Sorted.{by_order, compare_numbers}
 use Rattle.candidates.specs.Candidates.{pair_of, Readable}
@@ -37,23 +37,6 @@ and-swap true false true d = refl
 and-swap true false false d = refl
 and-swap false b c d = refl
 
--- ---- zeros
-
-pub zeros-ended : (xs : List ℕ) (i : ℕ) → length xs ≤ i → are_zero (drop i xs) ≡ are_zero xs → true ≡ are_zero xs
-unfolding are_zero every
-zeros-ended xs i l h = rw (drop_of_length-le xs l) at h
-
-module _ (xs : List ℕ) (i : ℕ) (l : i < length xs) (h : are_zero (drop i xs) ≡ are_zero xs) where
-  zero-at : are_zero (drop i xs) ≡ (eqb (get_or xs i 0) 0 && are_zero (drop (i + 1) xs))
-  unfolding are_zero every
-  zero-at = rw (add-one i, drop-cons xs i 0 l)
-
-  pub zero-not : (get_or xs i 0 ≡ 0 → ⊥) → false ≡ are_zero xs
-  zero-not n = sym (ap (λ b. b && are_zero (drop (i + 1) xs)) (ne_eqb (get_or xs i 0) 0 n)) ∙ sym zero-at ∙ h
-
-  pub zero-passed : get_or xs i 0 ≡ 0 → are_zero (drop (i + 1) xs) ≡ are_zero xs
-  zero-passed z = sym (ap (λ b. b && are_zero (drop (i + 1) xs)) (eq-eqb (get_or xs i 0) 0 z)) ∙ sym zero-at ∙ h
-
 -- ---- triples under m, the first at least low, each over the one before
 
 unfoldable pub climbs : ℕ → ℕ → List ℕ → Bool
@@ -64,7 +47,7 @@ less_by : (x y : ℕ) → leb (x + 1) y ≡ by_order (compare_numbers x y) true 
 unfolding compare_numbers
 less_by x y = step (leb (x + 1) y) (eqb x y) refl
   where
-    step : (b d : Bool) → leb (x + 1) y ≡ b → b ≡ by_order (cond (ltb x y) Less (cond d Same More)) true false false
+    step : (b d : Bool) → leb (x + 1) y ≡ b → b ≡ by_order (cond (ltb x y) Less (cond d Equal Greater)) true false false
     step true d e = rw (lt-ltb x y (omega (arith, leb-true (x + 1) y e)))
     step false true e = rw (le-ltb x y (omega (arith, leb-false (x + 1) y e)))
     step false false e = rw (le-ltb x y (omega (arith, leb-false (x + 1) y e)))

@@ -1,6 +1,6 @@
 -- The form that the tables in a running record's workspace must have (01: 18), over K labels. Assumes nothing.
 use Rattle.std.specs.Prelude.{Bool, true, false, ◌&&◌, List, [], ◌∷◌, ◌++◌, ℕ, zero, suc, ◌+◌, ◌*◌, ◌^◌, eqb, ltb, leb, length, take, drop, get_or}
-use Rattle.lists.specs.declared.Order.{Order}
+use Rattle.std.specs.declared.cmp.Ordering.{Ordering}
 use Rattle.lists.specs.Lists.{every}
 use Rattle.lists.specs.Sorted.{by_order, compare_numbers, compare_lists}
 use Rattle.tables.specs.Definitions.{Pair, subsets}
@@ -11,7 +11,7 @@ unfoldable pub are_zero : List ℕ → Bool
 are_zero ws = every (λ v. eqb v 0) ws
 
 -- each element comes before the next
-module _ {A : Type 0} (cmp : A → A → Order) where
+module _ {A : Type 0} (cmp : A → A → Ordering) where
   unfoldable pub rises_from : A → List A → Bool
   rises_from x [] = true
   rises_from x (y ∷ ys) = by_order (cmp x y) true false false && rises_from y ys

@@ -8,8 +8,6 @@ ghost use Rattle.labels.specs.Labels.{label_count};
 ghost use Rattle.candidates.specs.Candidates.{pair_of, Readable};
 ghost use Rattle.forms.specs.Forms.{are_zero, is_rising, is_row};
 
-use lists::Order;
-
 // A triple is three sets of labels::LABELS labels.
 pub const TRIPLE_LIMIT: u32 = 1 << (3 * labels::LABELS as u32);
 
@@ -17,28 +15,14 @@ pub const TRIPLE_LIMIT: u32 = 1 << (3 * labels::LABELS as u32);
 pub fn are_zero(part: &[u32]) -> bool
     ensures { result ≡ are_zero part.now }
 {
-    let mut i = 0;
-    while i < part.len() {
-        if part[i] != 0 {
-            return false;
-        }
-        i += 1;
-    }
-    true
+    part.iter().all(|word| *word == 0)
 }
 
 // Whether the counts are all 0.
 pub fn are_zero_counts(counts: &[u64]) -> bool
     ensures { result ≡ are_zero counts.now }
 {
-    let mut i = 0;
-    while i < counts.len() {
-        if counts[i] != 0 {
-            return false;
-        }
-        i += 1;
-    }
-    true
+    counts.iter().all(|count| *count == 0)
 }
 
 // Whether the triples are under the limit and strictly rise. `low` is the least that the next one may be.
@@ -46,9 +30,7 @@ fn triples_rise(triples: &[u32]) -> bool
     ensures { result ≡ (every (λ v. ltb v (2 ^ (3 * label_count))) triples.now && is_rising compare_numbers triples.now) }
 {
     let mut low = 0;
-    let mut i = 0;
-    while i < triples.len() {
-        let x = triples[i];
+    for &x in triples {
         if TRIPLE_LIMIT <= x {
             return false;
         }
@@ -56,7 +38,6 @@ fn triples_rise(triples: &[u32]) -> bool
             return false;
         }
         low = x + 1;
-        i += 1;
     }
     true
 }
@@ -85,12 +66,5 @@ pub fn is_next_row(previous: &[u32], row: &[u32]) -> bool
     requires in_bounds { (2 ≤ length row.now) × (length row.now ≤ 4096) }
     ensures { result ≡ (is_row label_count row.now && by_order (compare_lists (pair_of previous.now) (pair_of row.now)) true false false) }
 {
-    if !is_row(row) {
-        return false;
-    }
-    match rows::compare_rows(previous, row) {
-        Order::Less => true,
-        Order::Same => false,
-        Order::More => false,
-    }
+    is_row(row) && rows::compare_rows(previous, row).is_lt()
 }

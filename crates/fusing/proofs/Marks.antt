@@ -18,7 +18,7 @@ use Rattle.expression.specs.declared.Command.TheVariants.{Atom, Rule, Union, Rel
 use Rattle.tables.specs.Triples.{mark_u, relabel_triple, settles, connect_triple}
 use Rattle.candidates.specs.Candidates.{map_triple}
 use Rattle.marks.specs.Marks.{Marked}
-use Rattle.marks.proofs.Gathering.{within-left, within-right, within_more}
+use Rattle.marks.proofs.Gathering.{within-left, within-right}
 use Rattle.batches.specs.Batches.{step_triple, step}
 use Rattle.fusing.specs.Fusing.{marks_after}
 

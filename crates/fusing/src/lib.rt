@@ -36,29 +36,21 @@ fn with_atoms(j: Judge, k: Kind, i: u32) -> Judge
     match k {
         Kind::Head => Judge {
             marks: j.marks | (1 << i),
-            negative: j.negative,
-            label: j.label,
-            after: j.after,
-            leaves: j.leaves,
+            ..j
         },
         Kind::Positive => Judge {
             marks: j.marks | (1 << (LABELS + i)),
-            negative: j.negative,
-            label: j.label,
-            after: j.after,
-            leaves: j.leaves,
+            ..j
         },
         Kind::Negative => Judge {
-            marks: j.marks,
             negative: j.negative | (1 << i),
-            label: j.label,
-            after: j.after,
-            leaves: j.leaves,
+            ..j
         },
     }
 }
 
 // The word that does what a rule's word and then the command do, if it is of that rule; else 0. Only a rule that keeps its label can go on.
+#[tactic(auto, unfolding(expression::specs::Commands::Suits))]
 fn joined(w: u64, c: Command) -> u64
     requires { Suits label_count c }
     ensures { 0 < result → (q r : ℕ) → word_triple label_count result q r ≡ step_triple label_count c (word_triple label_count w q q) (word_triple label_count w q r) }
@@ -84,18 +76,9 @@ fn joined(w: u64, c: Command) -> u64
             if g != j.label {
                 return 0;
             }
-            judge_word(Judge {
-                marks: j.marks,
-                negative: j.negative,
-                label: g,
-                after: h,
-                leaves: 0,
-            })
+            judge_word(Judge { after: h, ..j })
         }
-        Command::Rule(_) => 0,
-        Command::Atom(_) => 0,
-        Command::Union => 0,
-        Command::Name(_) => 0,
+        Command::Rule(_) | Command::Atom(_) | Command::Union | Command::Name(_) => 0,
     }
 }
 
@@ -116,6 +99,7 @@ fn alone(w: u32) -> u64
 }
 
 // Whether there is such a mark.
+#[tactic(auto, unfolding(labels::specs::Sets::has))]
 fn has_mark(marks: u32, n: u32) -> bool
     requires { n < 32 }
     ensures { result ≡ has n marks }
@@ -125,6 +109,7 @@ fn has_mark(marks: u32, n: u32) -> bool
 
 // Whether the command is a connect that could touch no triple with no marks but these: none has an unmet rule of its label j, or none has an atom of its
 // label i.
+#[tactic(auto, unfolding(expression::specs::Commands::Suits))]
 fn is_idle(c: Command, marks: u32) -> bool
     requires { Suits label_count c }
     ensures { result ≡ true → (q r : ℕ) → Within marks q → Within marks r → step_triple label_count c q r ≡ r }
@@ -161,6 +146,7 @@ fn put_word(code: &mut [u64], m: usize, c: Command, w: u32, marks: u32) -> usize
 }
 
 // Whether a rule has atoms of label g.
+#[tactic(auto, unfolding(labels::specs::Sets::has))]
 fn speaks_of(j: Judge, g: u32) -> bool
     requires { g < label_count }
     ensures { result ≡ (has g j.marks || (has (label_count + g) j.marks || has g j.negative)) }
@@ -205,16 +191,11 @@ fn lighter(a: u64, b: u64) -> u64
     if speaks_of(j, j.after) {
         return 0;
     }
-    judge_word(Judge {
-        marks: i.marks,
-        negative: i.negative,
-        label: i.label,
-        after: i.after,
-        leaves: 1,
-    })
+    judge_word(Judge { leaves: 1, ..i })
 }
 
 // The last but one of m words, lighter where it can be: after a relabel, of the word w.
+#[tactic(auto, using(crate::proofs::Fusing::put_first))]
 fn lighten(code: &mut [u64], m: usize, w: u32)
     requires { m ≤ length code.old }
     ensures { (x : List ℕ) → word_steps label_count (take m code.new) x ≡ word_steps label_count (take m code.old) x }
@@ -231,6 +212,7 @@ fn lighten(code: &mut [u64], m: usize, w: u32)
 }
 
 // The word of a command or, where back is not 0, of the other half of a link (02, Item 11).
+#[tactic(auto, unfolding(crate::specs::Fusing::turned, expression::specs::Commands::Suits))]
 fn half_word(w: u32, back: usize) -> u32
     ensures { command_of label_count result ≡ half_of back (command_of label_count w) }
 {
@@ -240,15 +222,16 @@ fn half_word(w: u32, back: usize) -> u32
     let c = command_of(w as u64);
     match c {
         Command::Connect(k, i, j) => connect_word(k, j, i),
-        Command::Relabel(_, _) => w,
-        Command::Rule(_) => w,
-        Command::Atom(_) => w,
-        Command::Union => w,
-        Command::Name(_) => w,
+        Command::Relabel(_, _)
+        | Command::Rule(_)
+        | Command::Atom(_)
+        | Command::Union
+        | Command::Name(_) => w,
     }
 }
 
 // 1 if the other half of a link is to come, else 0: where it came already, and where it is idle, as it mostly is.
+#[tactic(auto, unfolding(batches::specs::Batches::reversed, expression::specs::Commands::Suits))]
 fn goes_back(c: Command, back: usize, marks: u32) -> usize
     requires { Suits label_count c }
     ensures { (result ≤ 1) × (result ≡ 1 → (back ≡ 0) × IsLink c) × (result ≡ 0 → back ≡ 0 → (y : List ℕ) → Marked marks y → y ≡ reversed label_count c y) }
@@ -264,15 +247,16 @@ fn goes_back(c: Command, back: usize, marks: u32) -> usize
             }
             1
         }
-        Command::Relabel(_, _) => 0,
-        Command::Rule(_) => 0,
-        Command::Atom(_) => 0,
-        Command::Union => 0,
-        Command::Name(_) => 0,
+        Command::Relabel(_, _)
+        | Command::Rule(_)
+        | Command::Atom(_)
+        | Command::Union
+        | Command::Name(_) => 0,
     }
 }
 
 // The marks that triples may have after a command.
+#[tactic(auto, unfolding(crate::specs::Fusing::marks_after, candidates::specs::Candidates::map_triple, expression::specs::Commands::Suits))]
 fn marks_after(c: Command, marks: u32) -> u32
     requires { Suits label_count c }
     ensures { result ≡ marks_after label_count c marks }
@@ -280,10 +264,7 @@ fn marks_after(c: Command, marks: u32) -> u32
     match c {
         Command::Rule(g) => with_rule(g, marks),
         Command::Relabel(_, _) => candidates::map_triple(c, marks, marks),
-        Command::Connect(_, _, _) => marks,
-        Command::Atom(_) => marks,
-        Command::Union => marks,
-        Command::Name(_) => marks,
+        Command::Connect(_, _, _) | Command::Atom(_) | Command::Union | Command::Name(_) => marks,
     }
 }
 
@@ -305,6 +286,7 @@ pub fn fuse(code: &mut [u64], ops: &[u32], marks: u32) -> usize
     let mut seen = marks;
     let mut back = 0;
     let mut k = 0;
+    // No `for`: where the other half of a link is to come, the next turn has the same word.
     while k < ops.len() {
         let w = half_word(ops[k], back);
         let c = command_in(w);

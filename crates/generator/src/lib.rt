@@ -2,7 +2,9 @@
 // between commands.
 #![tactic(auto)]
 
-ghost use Rattle.std.specs.Prelude.{◌≡◌, ◌+◌, ◌*◌, ◌<◌, ◌≤◌, length, take};
+ghost use Rattle.std.specs.Prelude.{◌≡◌, ◌+◌, ◌*◌, ◌<◌, ◌≤◌, length, take, false};
+
+use oracle_tables::Request;
 
 // labels::LABELS at the width of what is drawn.
 const LABELS: u64 = labels::LABELS as u64;
@@ -91,7 +93,7 @@ fn any_command(x: u64) -> u8 {
     if x % 32 == 0 {
         return (x / 32 % 256) as u8;
     }
-    command(x / 64 % 36, x, x / 4096 % 9)
+    command(x / 64 % TURNS, x, x / 4096 % 9)
 }
 
 fn size(byte: u8) -> usize
@@ -110,18 +112,9 @@ fn depth_after(byte: u8, depth: u64) -> u64
 {
     match byte {
         0x11 | 0x12 | 0x13 => depth + 1,
-        0x21 => less_one(depth),
+        0x21 => depth.saturating_sub(1),
         _ => depth,
     }
-}
-
-fn less_one(depth: u64) -> u64
-    ensures { result ≤ depth }
-{
-    if depth < 1 {
-        return 0;
-    }
-    depth - 1
 }
 
 // ---- names
@@ -145,10 +138,8 @@ fn put_name(out: &mut [u8], at: usize, is_valid: bool, depth: u64, x: u64) -> us
 fn fill_name(out: &mut [u8], at: usize, x: u64)
     requires { at ≤ 769 }
 {
-    let mut k: u64 = 0;
-    while k < 16 {
+    for k in 0..16 {
         put(out, at + k as usize, name_byte(x, k));
-        k += 1;
     }
 }
 
@@ -173,47 +164,60 @@ fn name_command(x: u64) -> u8 {
 
 // ---- sheets
 
-// A sheet of one of four styles: commands that need not make sense together; a sheet that is cut or has one byte changed; and twice one that passes
-// checks 5 to 12. The answer is its length; the second fact is what a caller has to know to take that part of its array.
+#[derive(Clone, Copy, PartialEq, Eq)]
+enum Style {
+    // commands that need not make sense together
+    Noise,
+    // a sheet that is cut or has one byte changed
+    Damaged,
+    // one that passes checks 5 to 12
+    Valid,
+}
+
+// Half of all are valid.
+fn style_of(x: u64) -> Style {
+    match x % 4 {
+        0 => Style::Noise,
+        1 => Style::Damaged,
+        _ => Style::Valid,
+    }
+}
+
+// A sheet of the style of a number. The answer is its length; the second fact is what a caller has to know to take that part of its array.
 pub fn sheet(style: u64, seed: u64, out: &mut [u8]) -> usize
     requires { 768 ≤ length out.old }
     ensures { (result ≤ length out.new) × (result ≡ length (take result out.new)) }
 {
-    let n = draft(style % 4, seed, out);
-    if style % 4 != DAMAGED {
+    let style = style_of(style);
+    let n = draft(style, seed, out);
+    if style != Style::Damaged {
         return n;
     }
     damage(drawn(next_seed(seed / 3)), n, out)
 }
 
-const NOISE: u64 = 0;
-
-const DAMAGED: u64 = 1;
-
-fn draft(style: u64, seed: u64, out: &mut [u8]) -> usize
+fn draft(style: Style, seed: u64, out: &mut [u8]) -> usize
     ensures { result ≤ 720 }
 {
     let mut next = next_seed(seed);
-    let mut turn = drawn(next) % 20;
     let mut depth: u64 = 0;
     let mut at: usize = 0;
-    while turn < TURNS {
+    for turn in drawn(next) % 20..TURNS {
         next = next_seed(next);
-        at += put_name(out, at, style != NOISE, depth, drawn(next / 4096));
+        at += put_name(out, at, style != Style::Noise, depth, drawn(next / 4096));
         let byte = styled_command(style, turn, drawn(next), depth);
         emit(out, at, byte, drawn(seed), next / 1024);
         at += size(byte);
         depth = depth_after(byte, depth);
-        turn += 1;
     }
     at
 }
 
-fn styled_command(style: u64, turn: u64, x: u64, depth: u64) -> u8 {
-    if style == NOISE {
-        return any_command(x);
+fn styled_command(style: Style, turn: u64, x: u64, depth: u64) -> u8 {
+    match style {
+        Style::Noise => any_command(x),
+        Style::Damaged | Style::Valid => command(turn, x, depth),
     }
-    command(turn, x, depth)
 }
 
 // One of the first 2, 3 or 5 labels, or of all, for atoms and rules alike: so either label of a link may have both (02, Item 11).
@@ -286,7 +290,26 @@ fn edge_label(x: u64) -> u8 {
     }
 }
 
-// ---- limits and pins
+// ---- requests
+
+// A decision with limits and pins, in all the room there is.
+pub fn request(seed: u64) -> Request
+    ensures { (result.is_plain ≡ false) × (result.is_report ≡ false) × (result.room ≡ 20000) }
+{
+    let x = drawn(seed);
+    let more = next_seed(seed);
+    Request {
+        pair_limit: limit(x),
+        subset_limit: limit(x / 4096),
+        room: ROOM as u64,
+        assumed_true: pins(more),
+        assumed_false: pins(next_seed(more)),
+        is_plain: false,
+        is_report: false,
+        asked: 0,
+        buffer: 0,
+    }
+}
 
 // Once in many 0 or one beyond the greatest.
 pub fn limit(x: u64) -> u64 {
@@ -319,33 +342,16 @@ pub const ROOM: usize = 20000;
 // Mostly just the words needed; else one less, all there are, or some number.
 pub fn room(x: u64, need: usize) -> u64 {
     match x % 8 {
-        0 => within_room(one_less(need)),
+        0 => need.saturating_sub(1).min(ROOM) as u64,
         1 => ROOM as u64,
-        2 => x / 8 % 20000,
-        _ => within_room(need),
+        2 => x / 8 % ROOM as u64,
+        _ => need.min(ROOM) as u64,
     }
-}
-
-fn within_room(n: usize) -> u64 {
-    if n > ROOM {
-        return ROOM as u64;
-    }
-    n as u64
-}
-
-fn one_less(n: usize) -> usize {
-    if n == 0 {
-        return 0;
-    }
-    n - 1
 }
 
 // How many of so many words are lent.
 pub fn lent(room: u64, words: usize) -> usize
     ensures { result ≤ words }
 {
-    if room > words as u64 {
-        return words;
-    }
-    room as usize
+    room.min(words as u64) as usize
 }

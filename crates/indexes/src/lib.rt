@@ -7,8 +7,8 @@ ghost use Rattle.candidates.specs.Candidates.{pair_of, Readable};
 ghost use Rattle.rows.specs.Rows.{sorted_of, Indexed};
 ghost use Rattle.rows.specs.Inserted.{Inserted};
 
-use lists::Order;
 use rows::Placed;
+use std::cmp::Ordering;
 
 // How many of the m rows come before the row. The first look is at the last row, since rows mostly come in order.
 pub fn find_row(area: &[u32], index: &[u32], w: usize, m: usize, row: &[u32]) -> usize
@@ -26,13 +26,13 @@ pub fn find_row(area: &[u32], index: &[u32], w: usize, m: usize, row: &[u32]) ->
         let s = index[mid] as usize;
         let o = rows::compare_at(row, area, w, s);
         match o {
-            Order::More => {
+            Ordering::Greater => {
                 lo = mid + 1;
             }
-            Order::Less => {
+            Ordering::Less => {
                 hi = mid;
             }
-            Order::Same => {
+            Ordering::Equal => {
                 hi = mid;
             }
         }
@@ -59,7 +59,7 @@ pub fn insert_row(
     if k < m {
         let s = index[k] as usize;
         let o = rows::compare_at(row, &area[..], w, s);
-        if let Order::Same = o {
+        if let Ordering::Equal = o {
             return Placed::Old(k);
         }
     }

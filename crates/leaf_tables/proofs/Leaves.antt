@@ -21,7 +21,7 @@ use Rattle.rows.specs.Rows.{Rows, table_of}
 use Rattle.rows.proofs.Tables.{rows_of}
 use Rattle.entries.specs.declared.Carry.{Carry}
 use Rattle.entries.specs.Carries.{Entry, entry_algebra}
-use Rattle.making.specs.Making.{table_of_all, Finished, entry_of}
+use Rattle.making.specs.Making.{Making, table_of_all, Finished, entry_of}
 use Rattle.leaves.specs.declared.Atom.{Atom}
 use Rattle.leaves.specs.declared.Tables.{Tables}
 use Rattle.leaves.specs.declared.Tables.TheVariants.{Plain, Pairs}
@@ -46,6 +46,16 @@ module _ (kind : Tables) (x : Atom) (g : NewAtom) where
 
   pub absent-next : (row : List ℕ) → pair_of row ≡ mark_f label_count g.label ∷ [] → absents ≡ cond x.may_be_out (entry_of row x.value_out ∷ []) []
   absent-next row e = ap {B = List Entry} (λ (y : Entry). cond x.may_be_out (y ∷ []) []) (same-entry (sym (e ∙ absent-is kind 0 g)) refl)
+
+  -- a table that is being made of them: the present entry is next, then the absent one
+  module _ {carry : Carry} {w p to : ℕ} {cands : List Entry} {m : ℕ} {ws₀ ws index vals : List ℕ} (row : List ℕ) (rest : List Entry) where
+    pub present-step : pair_of row ≡ (algebra_of kind label_count).present 0 g → Making carry w p to cands (leaf_entries kind x g ++ rest) m ws₀ ws index vals
+        → Making carry w p to cands (cond x.may_be_in (entry_of row x.value_in ∷ []) [] ++ (absents ++ rest)) m ws₀ ws index vals
+    present-step e h = rw (← present-first row rest e) h
+
+    pub absent-step : pair_of row ≡ mark_f label_count g.label ∷ [] → Making carry w p to cands (absents ++ rest) m ws₀ ws index vals
+        → Making carry w p to cands (cond x.may_be_out (entry_of row x.value_out ∷ []) [] ++ rest) m ws₀ ws index vals
+    absent-step e h = rw (← absent-next row e) h
 
 module _ (kind : Tables) (carry : Carry) (g : ℕ) where
   pub unmet-entry : (row : List ℕ) → pair_of row ≡ mark_u label_count g ∷ [] → (table_algebra kind carry).unmet g ≡ entry_of row no_value

@@ -14,7 +14,7 @@ ghost use Rattle.leaves.specs.Leaves.{algebra_of, atom_at, Wide};
 
 use entries::Carry;
 use expression::limits::ATOM_LIMIT;
-use expression::{NewAtom, Role};
+use expression::{NewAtom, Pins, Role};
 use values::Value;
 
 // Which tables are made: Definition 5's, kept as pairs without subsets, or Definition 8's.
@@ -87,15 +87,15 @@ fn present_value(carry: Carry, c: u64) -> Value
     }
 }
 
-// The atom c under assumptions.
-pub fn atom_at(carry: Carry, c: u64, assumed_true: u64, assumed_false: u64) -> Atom
+// The atom c under pins.
+pub fn atom_at(carry: Carry, c: u64, pins: Pins) -> Atom
     requires { c ≤ atom_limit }
-    ensures { result ≡ atom_at carry (by_masks assumed_true assumed_false) c }
+    ensures { result ≡ atom_at carry (by_masks pins.assumed_true pins.assumed_false) c }
 {
     let value_in = present_value(carry, c);
     Atom {
-        may_be_in: !has_atom(c, assumed_false),
-        may_be_out: !has_atom(c, assumed_true),
+        may_be_in: !has_atom(c, pins.assumed_false),
+        may_be_out: !has_atom(c, pins.assumed_true),
         value_in,
         value_out: NO_VALUE,
     }

@@ -1,6 +1,7 @@
 -- After both decisions settle the report after the last command is written: where that command starts, and what the report answers. Assumes nothing.
+use Rattle.std.specs.Prelude.{Some}
 use mathlib.Core.Path.{◌≡◌, refl, sym, ap, ◌∙◌, subst}
-use mathlib.Core.Bool.{true, false, ◌||◌, true≢false}
+use mathlib.Core.Bool.{false, ◌||◌, true≢false}
 use mathlib.Core.List.{List, ◌++◌}
 use Prim.Native.Nat.{ℕ, zero, suc, ◌+◌, ◌≤◌, ◌<◌}
 use native.Mathlib.Decide.{dec_le}
@@ -8,11 +9,9 @@ use native.Mathlib.Omega.{arith}
 use lib.ListN.{length, drop}
 use borrow.Author.Tests.{eq-eqb, ne_eqb, lt-ltb, le-ltb}
 use Rattle.expression.specs.declared.Command.{Command}
-use Rattle.expression.specs.declared.Read.TheVariants.{Command as Got}
 use Rattle.expression.specs.declared.Counts.{Counts}
-use Rattle.expression.specs.declared.Located.TheVariants.{Before}
 use Rattle.expression.specs.Limits.{area_words}
-use Rattle.expression.specs.Commands.{read_at}
+use Rattle.expression.specs.Commands.{Got, read_at}
 use Rattle.expression.specs.Reading.{Placed, no_counts, counted}
 use Rattle.expression.specs.Places.{locate_from, locate}
 use Rattle.expression.specs.Checks.{Request}
@@ -24,8 +23,7 @@ use Rattle.decisions.specs.Decisions.{Verdict, affirmed, denied, refused, ground
 use Rattle.decisions.proofs.Walks.{Settled}
 use Rattle.leaves.specs.declared.Tables.TheVariants.{Pairs}
 use Rattle.reports.specs.Reports.{report_of}
-use Rattle.reporting.specs.declared.Report.{Report}
-use Rattle.reporting.specs.declared.Report.TheVariants.{Written, Refused}
+use Rattle.reporting.specs.Report.{Report, Written, Refused}
 use Rattle.reporting.specs.Reporting.{starts_at, Asked, asked_table, report_answer, report_buffer}
 use Rattle.report_calls.specs.Parts.{final_table}
 use Rattle.report_calls.proofs.Final.{LastAt, settled-joined, FinalReport, final-report}
@@ -37,7 +35,7 @@ module _ (K : ℕ) (s : List ℕ) (z : Counts) where
   -- from an offset on the command at l is found, and ends with the bytes
   record Found (k from : ℕ) (n : Counts) (l : ℕ) : Type 0 where
     counts : Counts
-    located : locate_from K k s l from n ≡ Before counts
+    located : locate_from K k s l from n ≡ Some counts
     command : Command
     reads : read_at K s l ≡ Got command (length s)
     ahead : from ≤ l

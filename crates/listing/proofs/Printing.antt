@@ -7,8 +7,7 @@ use native.Mathlib.Omega.{arith}
 use lib.ListN.{length, get_or, drop, length-append, length-drop}
 use lib.Seq.{drop-drop, get_or-drop, drop_at}
 use Rattle.expression.specs.declared.Command.{Command}
-use Rattle.expression.specs.declared.Read.TheVariants.{Command as Got, Fault}
-use Rattle.expression.specs.Commands.{read_at}
+use Rattle.expression.specs.Commands.{Got, Fault, read_at}
 use Rattle.expression.specs.declared.Outcome.{Outcome}
 use Rattle.expression.specs.Checks.{Request}
 use Rattle.expression.proofs.Commands.{read-ends}

@@ -1,7 +1,6 @@
 -- Whether a table is listed, where the last command starts, and a report's pairs in words (01, Listing), over K labels. Assumes nothing.
 use Rattle.std.specs.Prelude.{◌≡◌, Bool, true, false, ◌||◌, List, ◌++◌, ℕ, zero, suc, length, drop}
-use Rattle.expression.specs.declared.Read.TheVariants.{Command as Got, Fault}
-use Rattle.expression.specs.Commands.{read_at}
+use Rattle.expression.specs.Commands.{Got, Fault, read_at}
 use Rattle.expression.specs.Checks.{Request}
 use Rattle.tables.specs.Definitions.{Pair}
 use Rattle.decisions.specs.Decisions.{Verdict, affirmed, denied, refused, grounded, plain}

@@ -13,18 +13,28 @@ ghost use Rattle.report_calls.specs.Parts.{final_table};
 ghost use Rattle.listing.specs.Listing.{is_refusal, either_refused, last_start, PairsFrom};
 
 use calls::grounded;
+use checks::checking::Terms;
 use expression::limits::{AREAS, BYTE_LIMIT};
-use expression::{Outcome, Read};
+use expression::{Outcome, Pins};
 use outcomes::{kind, place, value};
 use plain_calls::plain;
 use reader::read_next;
 use report_calls::report;
-use reporting::Report;
 use std::io;
 use std::io::Read as _;
 
 // Of pairs, and of subsets in a pair.
 const LIMIT: u64 = 32;
+
+// What is asked of the sheet: no atom is assumed true or false.
+const TERMS: Terms = Terms {
+    pair_limit: LIMIT,
+    subset_limit: LIMIT,
+    pins: Pins {
+        assumed_true: 0,
+        assumed_false: 0,
+    },
+};
 
 // A row's words: a triple, a count and the subsets.
 const WIDTH: usize = LIMIT as usize + 2;
@@ -60,11 +70,9 @@ fn print_line(rt: &impl Print, words: &[u32], at: usize, end: usize) -> io::Resu
     requires { (at < end) × (end ≤ length words.now) }
 {
     print_word(rt, words[at])?;
-    let mut i = at + 1;
-    while i < end {
+    for &word in &words[at + 1..end] {
         print_space(rt)?;
-        print_word(rt, words[i])?;
-        i += 1;
+        print_word(rt, word)?;
     }
     end_line(rt)
 }
@@ -76,12 +84,10 @@ fn print_pairs(rt: &impl Print, words: &[u32], n: u64) -> io::Result<()>
     requires { PairsFrom 0 n words.now }
 {
     let mut at: usize = 0;
-    let mut left = n;
-    while left > 0 {
+    for _ in 0..n {
         let end = at + 2 + words[at + 1] as usize;
         print_line(rt, words, at, end)?;
         at = end;
-        left -= 1;
     }
     Ok(())
 }
@@ -92,14 +98,11 @@ fn last_start(s: &[u8]) -> usize
 {
     let mut last: usize = 0;
     let mut at: usize = 0;
-    loop {
-        let r = read_next(s, at);
-        let Read::Command(_, next) = r else {
-            return last;
-        };
+    while let Ok((_, next)) = read_next(s, at) {
         last = at;
         at = next;
     }
+    last
 }
 
 // The report of the table that the grounded decision was made from, and how many pairs it has. That table met the limits, so that a buffer of one area
@@ -111,11 +114,10 @@ fn write_table(s: &[u8], ws: &mut [u32], words: &mut [u32]) -> u64
     ensures words_after { words.new ≡ report_of Pairs (final_table label_count s.now 0 0) ++ drop (length (report_of Pairs (final_table label_count s.now 0 0))) words.old }
 {
     let at = last_start(s);
-    let r = report(s, at, LIMIT, LIMIT, 0, 0, ws, words);
-    let Report::Written(n, _) = r else {
+    let Ok(written) = report(s, at, TERMS, ws, words) else {
         return 0;
     };
-    n
+    written.entries
 }
 
 fn print_table(rt: &impl Print, s: &[u8], ws: &mut [u32], words: &mut [u32]) -> io::Result<()>
@@ -144,10 +146,10 @@ fn is_refused(o: Outcome) -> bool
 fn print_decisions(rt: &impl Print, s: &[u8], ws: &mut [u32]) -> io::Result<bool>
     ensures { IfOk result (λ v. v ≡ either_refused label_count (request s.now 32 32 (length ws.old) 0 0)) }
 {
-    let a = grounded(s, LIMIT, LIMIT, 0, 0, ws);
+    let a = grounded(s, TERMS, ws);
     print!(rt; "answer ")?;
     print_outcome(rt, a)?;
-    let b = plain(s, LIMIT, LIMIT, 0, 0, ws);
+    let b = plain(s, TERMS, ws);
     print!(rt; "plain ")?;
     print_outcome(rt, b)?;
     if is_refused(a) {

@@ -1,10 +1,2 @@
 // Finite sets as strictly rising lists, and tests over lists: the definitions are in specs/, the laws in proofs/.
 #![tactic(auto)]
-
-// How one value stands to another.
-#[derive(Clone, Copy)]
-pub enum Order {
-    Less,
-    Same,
-    More,
-}

@@ -1,19 +1,16 @@
 -- The entries that an area of rows holds, one by one. Assumes nothing.
-use mathlib.Core.Path.{◌≡◌, sym, ap, ◌∙◌, subst}
+use mathlib.Core.Path.{◌≡◌, sym, ap, ◌∙◌}
 use mathlib.Core.List.{List, [], ◌∷◌}
 use Prim.Native.Nat.{ℕ, ◌+◌, ◌*◌, ◌≤◌, ◌<◌}
 use native.Mathlib.Numerals.{add-one}
 use native.Mathlib.Omega.{arith}
 use lib.ListN.{length, drop, get_or, drop_of_length-le}
 use lib.Seq.{drop-cons}
-use Rattle.lists.proofs.Members.{all-get}
-use Rattle.tables.specs.Definitions.{Pair}
 use Rattle.values.specs.declared.Value.{Value}
 use Rattle.values.specs.Values.{no_value}
 use Rattle.candidates.specs.Candidates.{pair_of, Readable}
 use Rattle.rows.specs.Parts.{part}
-use Rattle.rows.specs.Rows.{Fit, rows_in, Rows, slot}
-use Rattle.rows.proofs.Parts.{part-part}
+use Rattle.rows.specs.Rows.{rows_in, Rows}
 use Rattle.rows.proofs.Tables.{length-rows_in, rows_in-at, slot_is, readable-slot}
 use Rattle.entries.specs.declared.Carry.{Carry}
 use Rattle.entries.specs.Carries.{values_in, Beside, Entry}

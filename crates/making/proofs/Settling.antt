@@ -9,7 +9,7 @@ use Rattle.lists.specs.Sorted.{insert_all, canon, Rising}
 use Rattle.tables.specs.Definitions.{Pair}
 use Rattle.values.specs.declared.Value.{Value}
 use Rattle.rows.specs.Parts.{part, put, zeros}
-use Rattle.rows.specs.Rows.{table_of, sorted_of, Indexed}
+use Rattle.rows.specs.Rows.{table_of, sorted_of, Rows, Indexed}
 use Rattle.rows.proofs.Parts.{part-long, part_low, part-high, put-put, put-part, put-comm}
 use Rattle.rows.proofs.Tables.{length-table}
 use Rattle.rows.proofs.Indexing.{sorted-long, sorted-fit}
@@ -17,8 +17,8 @@ use Rattle.entries.specs.declared.Carry.{Carry}
 use Rattle.entries.specs.Carries.{Entry, values_in, Kept}
 use Rattle.entries.specs.Entries.{with_values, entries_of}
 use Rattle.entries.proofs.Entering.{length-with}
-use Rattle.making.specs.Making.{entered_all, table_of_all, FitEntry, Making, Stepped, Settled, Finished}
-use Rattle.making.proofs.Stepping.{making-indexed, making-kept}
+use Rattle.making.specs.Making.{entered_all, table_of_all, FitEntry, Making, Stepped, Next, Puts, Steps, Settled, Finished}
+use Rattle.making.proofs.Stepping.{making-indexed, making-kept, stepped}
 
 -- ---- how it begins
 
@@ -50,6 +50,20 @@ begin carry w p to cands ws index vals z l k =
       over = λ g. absurd (omega arith);
       fit = subst (All (FitEntry w)) (append-nil cands);
     }
+
+-- where the words, the index and the values are those of no table, the candidates of a command are next, and then they are in
+module _ {carry : Carry} {w p to : ℕ} {ws index vals : List ℕ} (z : part to (p * w) ws ≡ zeros (p * w)) (l : p ≤ length index) (k : Kept carry p 0 vals) where
+  pub starts : (cands : List Entry) → Next carry w p to 0 cands ws index vals
+  starts cands = (cands, [], ws, begin carry w p to cands ws index vals z l k)
+
+  pub after-puts : {cands : List Entry} {r : ℕ} {ws' index' vals' : List ℕ} → Puts carry w p to 0 cands r ws index vals ws' index' vals' → Making carry w p to cands [] r ws ws' index' vals'
+  after-puts {cands} s = s cands [] ws (begin carry w p to cands ws index vals z l k)
+
+  pub after-all : {cands : List Entry} {r : ℕ} {ws' index' vals' : List ℕ} → 2 ≤ w → Puts carry w p to 0 cands r ws index vals ws' index' vals' → Stepped carry w p to cands [] cands r ws ws' index' vals'
+  after-all g s = stepped g (after-puts s)
+
+  pub after-steps : {cands : List Entry} {r : ℕ} {ws' index' vals' : List ℕ} → Steps carry w p to 0 cands r ws index vals ws' index' vals' → Stepped carry w p to cands [] cands r ws ws' index' vals'
+  after-steps {cands} s = s cands [] ws (begin carry w p to cands ws index vals z l k)
 
 -- ---- what it leaves
 
@@ -127,3 +141,7 @@ module _ {carry : Carry} {w p to : ℕ} {cands rest xs : List Entry} {r : ℕ} {
 
   pub stepped-indexed : r ≤ p → Indexed w p r (part to (p * w) ws) index
   stepped-indexed l = making-indexed (h.made (omega arith)) l
+
+  -- the rows that are settled: those at word `at`, and those that were made
+  pub stepped-rows : (at n : ℕ) → at + p * w ≤ to → to ≤ length ws₀ → Rows w p n (part at (p * w) ws₀) → Rows w p n (part at (p * w) ws) × Rows w p p (part to (p * w) ws)
+  stepped-rows at n l e t = (subst (Rows w p n) (sym (stepped-below at (p * w) l e)) t, h.rows)

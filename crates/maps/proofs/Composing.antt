@@ -4,8 +4,8 @@ use mathlib.Core.List.{List, [], ◌∷◌, map}
 use Prim.Native.Nat.{ℕ, ◌+◌, ◌%◌, ◌^◌}
 use native.Mathlib.Omega.{arith}
 use lib.Bits.{bit_or}
-use Rattle.lists.specs.declared.Order.{Order}
-use Rattle.lists.specs.declared.Order.TheVariants.{Less, Same, More}
+use Rattle.std.specs.declared.cmp.Ordering.{Ordering}
+use Rattle.std.specs.declared.cmp.Ordering.TheVariants.{Less, Equal, Greater}
 use Rattle.lists.specs.Lists.{All, products}
 use Rattle.lists.specs.Sorted.{compare_numbers, compare_lists, second, by_order, insert, insert_all, canon, set_of}
 use Rattle.lists.proofs.Members.{map-map}
@@ -137,11 +137,11 @@ module _ (carry : Carry) where
   small_put x [] a h = (a, tt)
   small_put x (y ∷ l) a h = go (compare_lists x.item y.item) (small_put x l a h.1)
     where
-      go : (o : Order) → All (Small carry) (insert (λ (u v : Entry). compare_lists u.item v.item) (λ u v. record { item = v.item; value = (carried_by carry).either u.value v.value }) x l)
+      go : (o : Ordering) → All (Small carry) (insert (λ (u v : Entry). compare_lists u.item v.item) (λ u v. record { item = v.item; value = (carried_by carry).either u.value v.value }) x l)
           → All (Small carry) (by_order o (x ∷ y ∷ l) (record { item = y.item; value = (carried_by carry).either x.value y.value } ∷ l) (y ∷ insert (λ (u v : Entry). compare_lists u.item v.item) (λ u v. record { item = v.item; value = (carried_by carry).either u.value v.value }) x l))
       go Less r = (a, h)
-      go Same r = (small-merged x y a h.0, h.1)
-      go More r = (h.0, r)
+      go Equal r = (small-merged x y a h.0, h.1)
+      go Greater r = (h.0, r)
 
   small_all : (xs acc : List Entry) → All (Small carry) xs → All (Small carry) acc → All (Small carry) (insert_all (entry_algebra label_count carry).order (entry_algebra label_count carry).merge xs acc)
   unfolding insert_all

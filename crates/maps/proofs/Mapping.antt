@@ -1,7 +1,7 @@
 -- The entries of a table mapped one after the other: the next candidate, and that there are no more candidates than rows. Assumes nothing.
-use mathlib.Core.Path.{◌≡◌, refl, sym, ap, ap₂, ◌∙◌}
+use mathlib.Core.Path.{◌≡◌, refl, sym, ap, ap₂}
 use mathlib.Core.List.{List, [], ◌∷◌, map}
-use Prim.Native.Nat.{ℕ, ◌+◌, ◌*◌, ◌≤◌, ◌<◌}
+use Prim.Native.Nat.{ℕ, ◌+◌, ◌-◌, ◌*◌, ◌≤◌, ◌<◌}
 use native.Mathlib.Decide.{dec_le}
 use native.Mathlib.Omega.{arith}
 use lib.ListN.{length, take, drop, get_or, get_or-map}
@@ -17,11 +17,12 @@ use Rattle.rows.specs.Rows.{Rows}
 use Rattle.batches.specs.Batches.{commands_of, steps, cleaned, batch_pair, word_steps, words_pair}
 use Rattle.entries.specs.declared.Carry.{Carry}
 use Rattle.entries.specs.declared.Carry.TheVariants.{Nothing, First, Consequences}
-use Rattle.entries.specs.Carries.{Keeps, values_in, Beside, Entry, entry_algebra}
+use Rattle.entries.specs.Carries.{in_words, value_area, Keeps, values_in, Beside, Entry, entry_algebra}
 use Rattle.entries.specs.Entries.{with_values}
 use Rattle.entries.proofs.Keeping.{no_value-get}
 use Rattle.making.specs.Making.{Making, table_of_all, entries_at, entry_at}
-use Rattle.making.proofs.Held.{entries-long, entry-at, entries_from}
+use Rattle.making.proofs.Held.{entries-long}
+use Rattle.making.proofs.Underway.{Underway, Operand, row-value, next-held}
 use Rattle.maps.specs.Maps.{batched, worded}
 
 -- the value of a row is one that words keep
@@ -49,17 +50,18 @@ module _ (carry : Carry) (w p a n : ℕ) (old wsₛ : List ℕ) (within : a + p 
   abbrev xs : List Entry
   xs = entries_at carry w p a n old wsₛ
 
-  pub next-is : (j : ℕ) → j < n → (v : Value) → v ≡ get_or (values_in carry n old) j no_value → (ws : List ℕ) → part (a + j * w) w ws ≡ part (a + j * w) w wsₛ
-      → map (by f) (drop j xs) ≡ by f (entry_at w (a + j * w) v ws) ∷ map (by f) (drop (j + 1) xs)
-  next-is j l v ev ws e =
-      ap (map (by f)) (entries_from carry w p a n old wsₛ within t beside j l)
-      ∙ ap (λ (y : Entry). by f y ∷ map (by f) (drop (j + 1) xs)) (entry-at carry w p a n old wsₛ within t beside j l v ev ws e)
-
   -- their table has no more than p rows
   pub few-mapped : length (table_of_all carry (map (by f) xs)) ≤ p
   unfolding table_of_all
   few-mapped =
       omega (arith, length-canon-map (entry_algebra label_count carry).order (entry_algebra label_count carry).merge (by f) xs, entries-long carry w p a n old wsₛ within t beside, t.room)
+
+-- the j-th of them is the next candidate
+module _ {carry : Carry} {w p to made a o n : ℕ} {cands left : List Entry} {m r : ℕ} {ws₀ index₀ vals₀ ws index vals : List ℕ}
+    (d : Operand carry w p to made a o n ws₀ vals₀) (h : Underway carry w p to made cands left m r ws₀ index₀ vals₀ ws index vals) (f : Pair → Pair) (j : ℕ) (l : j < n) where
+  pub next-is : (many : ℕ) → many ≡ in_words carry p → (v : Value) → v ≡ get_or (values_in carry n (part o (o + many - o) vals)) j no_value
+      → map (by f) (drop j (entries_at carry w p a n (value_area carry p o vals₀) ws₀)) ≡ by f (entry_at w (a + j * w) v ws) ∷ map (by f) (drop (j + 1) (entries_at carry w p a n (value_area carry p o vals₀) ws₀))
+  next-is many is v e = ap (map (by f)) (next-held d h j l v (row-value d h j l many is v e))
 
 -- a table whose candidates come to no more than p rows is not over
 pub not-over : {carry : Carry} {w p to : ℕ} {cands rest : List Entry} {r : ℕ} {ws₀ ws index vals : List ℕ} → Making carry w p to cands rest r ws₀ ws index vals

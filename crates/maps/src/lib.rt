@@ -68,8 +68,7 @@ pub fn map_all(
 {
     let k = entries::words_of(carry, p);
     let mut r = 0;
-    let mut j = 0;
-    while j < n {
+    for j in 0..n {
         let ra = a + j * w;
         let v = entries::value_at(&vals[old..old + k], carry, n, j);
         r = map_entry(
@@ -86,7 +85,6 @@ pub fn map_all(
             v,
             code,
         );
-        j += 1;
     }
     r
 }

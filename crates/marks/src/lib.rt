@@ -14,11 +14,8 @@ fn run_marks(run: &[u32], m: u32) -> u32
     ensures { Within result m × All (Within result) run.now }
 {
     let mut all = m;
-    let mut i = 0;
-    while i < run.len() {
-        let x = run[i];
-        all = all | x;
-        i += 1;
+    for x in run {
+        all = all | *x;
     }
     all
 }
@@ -50,11 +47,9 @@ pub fn table_marks(ws: &[u32], w: usize, p: usize, a: usize, n: usize) -> u32
     ensures { All (Marked result) (rows_in w n (part a (p * w) ws.now)) }
 {
     let mut m = 0;
-    let mut j = 0;
-    while j < n {
+    for j in 0..n {
         let ra = a + j * w;
         m = row_marks(&ws[ra..ra + w], m);
-        j += 1;
     }
     m
 }

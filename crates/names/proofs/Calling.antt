@@ -1,6 +1,6 @@
 -- What an atom is called, command by command; where its name ends. Assumes nothing.
 use mathlib.Core.Path.{◌≡◌, refl, sym, ap, ◌∙◌, subst}
-use mathlib.Core.Bool.{Bool, true, false, cond}
+use mathlib.Core.Bool.{Bool, true, false}
 use mathlib.Core.List.{List, [], ◌∷◌, map}
 use Prim.Native.Nat.{ℕ, zero, suc, ◌+◌, ◌≤◌, ◌<◌}
 use native.Mathlib.Omega.{arith}
@@ -10,22 +10,17 @@ use borrow.Author.Tests.{ltb-true, ltb-false}
 use Rattle.expression.specs.declared.Command.{Command}
 use Rattle.expression.specs.declared.Command.TheVariants.{Atom, Rule, Union, Relabel, Connect, Name}
 use Rattle.expression.specs.declared.Counts.{Counts}
-use Rattle.expression.specs.declared.Read.TheVariants.{Command as Got, Fault}
-use Rattle.expression.specs.declared.Checked.{Checked}
-use Rattle.expression.specs.declared.Checked.TheVariants as checked
-use Rattle.expression.specs.declared.Checked.TheVariants.{Passed}
-use Rattle.expression.specs.declared.Naming.{Naming}
-use Rattle.expression.specs.declared.Naming.TheVariants.{Named, Nameless, Refused}
+use Rattle.expression.specs.Checks as checked
 use Rattle.expression.specs.Limits.{name_length}
-use Rattle.expression.specs.Commands.{read_at}
+use Rattle.expression.specs.Commands.{Got, Fault, read_at}
 use Rattle.expression.specs.Effects.{effect}
 use Rattle.expression.specs.Reading.{no_counts, counted, capped, Placed, Reading, faulty, whole, read_from, reading}
-use Rattle.expression.specs.Checks.{check_sheet}
-use Rattle.expression.specs.Names.{newest_by, called_by, called_from, called, called_in, unless_refused, name_of}
+use Rattle.expression.specs.Checks.{Checked, Passed, check_sheet}
+use Rattle.expression.specs.Names.{Naming, Named, Nameless, Refused, newest_by, called_by, called_from, called, called_in, unless_refused, name_of}
 use Rattle.expression.proofs.Commands.{name-ends}
-use Rattle.expression.proofs.Totals.{counted-limited, capped-limited}
+use Rattle.expression.proofs.Totals.{capped-limited}
 use Rattle.expression.proofs.Readings.{from_end, whole-taken}
-use Rattle.expression.proofs.Checks.{Joined, sheet-joined}
+use Rattle.expression.proofs.Checks.{sheet-joined}
 use Rattle.expression.proofs.Remaining.{Remains, remains-start, remains-next, remains-end}
 
 abbrev commands_of : List Placed → List Command

@@ -5,15 +5,16 @@ ghost use Rattle.std.specs.Prelude.{◌≡◌};
 ghost use Rattle.labels.specs.Labels.{label_count};
 ghost use Rattle.expression.specs.Names.{is_atom, newest_by, called_by, called_in, name_of, bytes_named, naming_outcome};
 ghost use Rattle.expression.specs.Reading.{reading};
-ghost use Rattle.expression.specs.Checks.{check_sheet};
-ghost use Rattle.expression.specs.declared.Checked.TheVariants.{Passed};
+ghost use Rattle.expression.specs.Checks.{Passed, check_sheet};
+ghost use Rattle.expression.specs.Told.{named_of, naming_of};
 ghost use Rattle.expression.specs.declared.Counts.{Counts};
 
 use checks::checking::check_sheet;
 use commands::counting::{counted, no_counts};
 use commands::effects::effect;
 use expression::limits::NAME_LENGTH;
-use expression::{Checked, Command, Effect, Leaf, Naming, Outcome, Read};
+use expression::refusals::Refusal;
+use expression::{Command, Effect, Leaf, Outcome};
 use reader::read_next;
 
 // Whether the newest leaf is atom c after an effect; n atoms came before it.
@@ -38,37 +39,32 @@ fn is_atom(c: u64, n: u64, l: Leaf) -> bool
 }
 
 // What it is called after a command.
-fn called_by(newest: bool, name: Naming, c: Command) -> Naming
-    ensures { result ≡ called_by newest name c }
+#[tactic(auto, unfolding(expression::specs::Names::called_by))]
+fn called_by(newest: bool, name: Option<usize>, c: Command) -> Option<usize>
+    ensures { named_of result ≡ called_by newest (named_of name) c }
 {
     match c {
-        Command::Name(at) => {
-            if newest {
-                return Naming::Named(at as usize);
-            }
-            name
-        }
-        Command::Atom(_) => name,
-        Command::Rule(_) => name,
-        Command::Union => name,
-        Command::Relabel(_, _) => name,
-        Command::Connect(_, _, _) => name,
+        Command::Name(at) => { if newest { Some(at as usize) } else { name } }
+        Command::Atom(_)
+        | Command::Rule(_)
+        | Command::Union
+        | Command::Relabel(_, _)
+        | Command::Connect(_, _, _) => name,
     }
 }
 
 // What atom c is called after all commands of an expression that passed its checks.
-fn called(s: &[u8], c: u64) -> Naming
+fn called(s: &[u8], c: u64) -> Option<usize>
     requires { (z : Counts) × (check_sheet label_count s.now ≡ Passed z) }
-    ensures { result ≡ called_in c (reading label_count s.now) }
+    ensures { named_of result ≡ called_in c (reading label_count s.now) }
 {
     let mut at: usize = 0;
     let mut n = no_counts();
     let mut newest = false;
-    let mut name = Naming::Nameless;
+    let mut name = None;
     while at < s.len() {
-        let r = read_next(s, at);
-        let Read::Command(d, next) = r else {
-            return Naming::Nameless;
+        let Ok((d, next)) = read_next(s, at) else {
+            return None;
         };
         name = called_by(newest, name, d);
         newest = newest_by(c, n.atoms, newest, effect(d));
@@ -79,25 +75,20 @@ fn called(s: &[u8], c: u64) -> Naming
 }
 
 // The last name that atom c got, after checks 1 and 5 to 12.
-pub fn name(s: &[u8], c: u64) -> Naming
-    ensures { result ≡ name_of label_count s.now c }
+pub fn name(s: &[u8], c: u64) -> Result<Option<usize>, Refusal>
+    ensures { naming_of result ≡ name_of label_count s.now c }
 {
-    let r = check_sheet(s);
-    match r {
-        Checked::Passed(_) => called(s, c),
-        Checked::Refused(n, at) => Naming::Refused(n, at),
-    }
+    check_sheet(s)?;
+    Ok(called(s, c))
 }
 
 // Its sixteen bytes, a part of the caller's own; none where there is no name.
 pub fn name_bytes(s: &[u8], c: u64) -> &[u8]
     ensures { result.now ≡ bytes_named s.now (name_of label_count s.now c) }
 {
-    let r = name(s, c);
-    match r {
-        Naming::Named(at) => &s[at..at + NAME_LENGTH],
-        Naming::Nameless => &s[0..0],
-        Naming::Refused(_, _) => &s[0..0],
+    match name(s, c) {
+        Ok(Some(at)) => &s[at..at + NAME_LENGTH],
+        _ => &s[0..0],
     }
 }
 
@@ -105,10 +96,9 @@ pub fn name_bytes(s: &[u8], c: u64) -> &[u8]
 pub fn name_outcome(s: &[u8], c: u64) -> Outcome
     ensures { result ≡ naming_outcome (name_of label_count s.now c) }
 {
-    let r = name(s, c);
-    match r {
-        Naming::Named(at) => Outcome::Yes(at as u64),
-        Naming::Nameless => Outcome::No,
-        Naming::Refused(n, at) => Outcome::Refused(n, at),
+    match name(s, c) {
+        Ok(Some(at)) => Outcome::Yes(at as u64),
+        Ok(None) => Outcome::No,
+        Err(e) => Outcome::Refused(e.reason.number(), e.place),
     }
 }

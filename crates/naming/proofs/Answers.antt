@@ -9,12 +9,10 @@ use lib.ListN.{length}
 use borrow.Author.Tests.{le-ltb}
 use Rattle.lists.specs.Lists.{some, run}
 use Rattle.expression.specs.declared.Counts.{Counts}
-use Rattle.expression.specs.declared.Checked.{Checked}
-use Rattle.expression.specs.declared.Checked.TheVariants.{Passed, Refused}
 use Rattle.expression.specs.Limits.{byte_limit}
 use Rattle.expression.specs.Refusals.{plans_full}
 use Rattle.expression.specs.Reading.{Placed, whole, reading}
-use Rattle.expression.specs.Checks.{Request, Test, first_of, is_faulty, fault_number, counts_of, overlong_test, limits_test, cramped_test, clash_test, fault_test, unjoined_test, absent_test, checks, check}
+use Rattle.expression.specs.Checks.{Checked, Passed, Refused, Request, Test, first_of, is_faulty, fault_number, counts_of, overlong_test, limits_test, cramped_test, clash_test, fault_test, unjoined_test, absent_test, checks, check}
 use Rattle.expression.proofs.Accepted.{Accepted, check-accepted}
 use Rattle.semantics.specs.Programs.{numbers}
 use Rattle.tables.specs.Algebras.{Algebra, tables}

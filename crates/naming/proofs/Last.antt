@@ -14,13 +14,10 @@ use Rattle.expression.specs.declared.NewAtom.{NewAtom}
 use Rattle.expression.specs.declared.Command.{Command}
 use Rattle.expression.specs.declared.Command.TheVariants.{Atom, Rule, Union, Relabel, Connect, Name}
 use Rattle.expression.specs.declared.Counts.{Counts}
-use Rattle.expression.specs.declared.Checked.TheVariants.{Passed}
-use Rattle.expression.specs.declared.Naming.{Naming}
-use Rattle.expression.specs.declared.Naming.TheVariants.{Named, Nameless, Refused}
 use Rattle.expression.specs.Effects.{effect}
 use Rattle.expression.specs.Reading.{new_atoms, Reading, faulty, whole, reading}
-use Rattle.expression.specs.Checks.{check_sheet}
-use Rattle.expression.specs.Names.{newest_by, called_by, called_from, called, called_in, unless_refused, name_of, atoms_in, NoLeafBy, Newest, NameGot, LastName}
+use Rattle.expression.specs.Checks.{Passed, check_sheet}
+use Rattle.expression.specs.Names.{Naming, Named, Nameless, Refused, newest_by, called_by, called_from, called, called_in, unless_refused, name_of, atoms_in, NoLeafBy, Newest, NameGot, LastName}
 use Rattle.semantics.proofs.Readings.{commands_of}
 use Rattle.decisions.specs.Decisions.{commands_in}
 

@@ -12,10 +12,9 @@ use lib.Seq.{get_or-append-add, get_or-take, get_or-drop}
 use borrow.Author.Tests.{eqb-true, eqb-false, ltb-true, ltb-false}
 use Rattle.expression.specs.declared.Command.{Command}
 use Rattle.expression.specs.declared.Command.TheVariants.{Atom, Rule, Union, Relabel, Connect, Name}
-use Rattle.expression.specs.declared.Read.TheVariants.{Command as Got, Fault}
 use Rattle.expression.specs.Limits.{name_length}
-use Rattle.expression.specs.Refusals.{unknown, cut, group, same}
-use Rattle.expression.specs.Commands.{operand_count, name_start, command_of, read_command, read_at}
+use Rattle.expression.specs.Refusals.{cut, group, same}
+use Rattle.expression.specs.Commands.{Got, Fault, operand_count, name_start, command_of, read_command, read_at}
 use Rattle.expression.proofs.Commands.{few-operands, operands-tail, union-read, name-read, unknown-read, cut-read, leaf-read, pair_read, read-ends}
 use Rattle.naming.specs.Unnamed.{unless_name}
 

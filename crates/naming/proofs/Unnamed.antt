@@ -10,10 +10,8 @@ use lib.ListN.{length, take, drop, length-append, length-drop, drop_of_length-le
 use borrow.Author.Tests.{ltb-true, ltb-false}
 use Rattle.expression.specs.declared.Command.{Command}
 use Rattle.expression.specs.declared.Command.TheVariants.{Name}
-use Rattle.expression.specs.declared.Read.{Read}
-use Rattle.expression.specs.declared.Read.TheVariants.{Command as Got, Fault}
 use Rattle.expression.specs.declared.Counts.{Counts}
-use Rattle.expression.specs.Commands.{read_at}
+use Rattle.expression.specs.Commands.{Read, Got, Fault, read_at}
 use Rattle.expression.specs.Effects.{effect}
 use Rattle.expression.specs.Reading.{no_counts, counted, Placed, whole, behind, read_from, reading}
 use Rattle.expression.proofs.Commands.{past_end, read-ends}

@@ -16,8 +16,24 @@ ghost use Rattle.host_words.specs.Reported.{report_words_of};
 ghost use Rattle.host_words.specs.Walked.{progress_words_of};
 ghost use Rattle.nuntennis.specs.Reported.{pairs_asked, triples_asked};
 
+use checks::checking::Terms;
+use expression::Pins;
 use host_words::{ANSWER_WORDS, write_answer, write_report};
 use records::Record;
+
+// What a host asks of a sheet, as the calls take it.
+fn terms_of(p: u64, g: u64, pins_in: u64, pins_out: u64) -> Terms
+    ensures { result ≡ record { pair_limit = p; subset_limit = g; pins = record { assumed_true = pins_in; assumed_false = pins_out } } }
+{
+    Terms {
+        pair_limit: p,
+        subset_limit: g,
+        pins: Pins {
+            assumed_true: pins_in,
+            assumed_false: pins_out,
+        },
+    }
+}
 
 // The most parts that the sheet has at a time, for which a host lends words (02, Item 8).
 #[unsafe(no_mangle)]
@@ -65,7 +81,8 @@ pub extern "C" fn nuntennis_grounded(
     if answer.len() < ANSWER_WORDS {
         return 0;
     }
-    let o = calls::grounded(sheet, p, g, pins_in, pins_out, workspace);
+    let terms = terms_of(p, g, pins_in, pins_out);
+    let o = calls::grounded(sheet, terms, workspace);
     write_answer(answer, o);
     1
 }
@@ -88,7 +105,8 @@ pub extern "C" fn nuntennis_plain(
     if answer.len() < ANSWER_WORDS {
         return 0;
     }
-    let o = plain_calls::plain(sheet, p, g, pins_in, pins_out, workspace);
+    let terms = terms_of(p, g, pins_in, pins_out);
+    let o = plain_calls::plain(sheet, terms, workspace);
     write_answer(answer, o);
     1
 }
@@ -114,7 +132,8 @@ pub extern "C" fn nuntennis_report(
     if answer.len() < ANSWER_WORDS {
         return 0;
     }
-    let r = report_calls::report(sheet, asked, p, g, pins_in, pins_out, workspace, report);
+    let terms = terms_of(p, g, pins_in, pins_out);
+    let r = report_calls::report(sheet, asked, terms, workspace, report);
     write_report(answer, r);
     1
 }
@@ -140,7 +159,8 @@ pub extern "C" fn nuntennis_plain_report(
     if answer.len() < ANSWER_WORDS {
         return 0;
     }
-    let r = report_calls::plain_report(sheet, asked, p, g, pins_in, pins_out, workspace, report);
+    let terms = terms_of(p, g, pins_in, pins_out);
+    let r = report_calls::plain_report(sheet, asked, terms, workspace, report);
     write_report(answer, r);
     1
 }
@@ -162,7 +182,8 @@ pub extern "C" fn nuntennis_start(
     ensures workspace_after { workspace.new ≡ unless_short answer.old workspace.old (start label_count (request sheet.now p g (length workspace.old) pins_in pins_out) «record».old workspace.old).words }
     ensures answer_after { answer.new ≡ unless_short answer.old answer.old (progress_words_of (start label_count (request sheet.now p g (length workspace.old) pins_in pins_out) «record».old workspace.old).answer answer.old) }
 {
-    let t = walk_calls::tell_start(*record, workspace, sheet, p, g, pins_in, pins_out, answer);
+    let terms = terms_of(p, g, pins_in, pins_out);
+    let t = walk_calls::tell_start(*record, workspace, sheet, terms, answer);
     *record = t.state;
     t.returned
 }
@@ -184,7 +205,8 @@ pub extern "C" fn nuntennis_step(
     ensures workspace_after { workspace.new ≡ unless_short answer.old workspace.old (step label_count (request sheet.now p g (length workspace.old) pins_in pins_out) «record».old workspace.old).words }
     ensures answer_after { answer.new ≡ unless_short answer.old answer.old (progress_words_of (step label_count (request sheet.now p g (length workspace.old) pins_in pins_out) «record».old workspace.old).answer answer.old) }
 {
-    let t = walk_calls::tell_step(*record, workspace, sheet, p, g, pins_in, pins_out, answer);
+    let terms = terms_of(p, g, pins_in, pins_out);
+    let t = walk_calls::tell_step(*record, workspace, sheet, terms, answer);
     *record = t.state;
     t.returned
 }
@@ -204,5 +226,6 @@ pub extern "C" fn nuntennis_verdict(
     ensures value { result ≡ returned answer.old }
     ensures answer_after { answer.new ≡ unless_short answer.old answer.old (answer_of (verdict label_count (request sheet.now p g (length workspace.now) pins_in pins_out) «record».now workspace.now) answer.old) }
 {
-    walk_calls::tell_verdict(*record, workspace, sheet, p, g, pins_in, pins_out, answer)
+    let terms = terms_of(p, g, pins_in, pins_out);
+    walk_calls::tell_verdict(*record, workspace, sheet, terms, answer)
 }

@@ -1,55 +1,64 @@
 // The checks that come before any table: 1, 2, 5 to 12, then 3 (02, Item 8), 13, then 4 (02, Item 4), then 14.
-ghost use Rattle.std.specs.Prelude.{◌≤◌};
+ghost use Rattle.std.specs.Prelude.{◌≡◌, ◌≤◌, length, None, OnOk, IfOk};
+ghost use Rattle.expression.specs.Limits.{byte_limit};
 
+use crate::{Unanswered, refuse_if};
 use expression::limits::{BYTE_LIMIT, TABLE_LIMIT};
-use expression::refusals::{ABSENT, CLASH, CRAMPED, LIMITS, OFFSET, OVERLONG, UNJOINED};
+use expression::refusals::Reason;
 use oracle_tables::Request;
-use policies::{Policy, no_policy, refused};
+use policies::Policy;
 use readings::read_to;
 
-// In place of a refusal: more atoms or rules than are kept.
-pub const LARGE: u64 = 255;
-
-// The whole sheet read. A refusal stands in `fault` and `place`.
-pub fn check(s: &[u8], q: Request) -> Policy {
-    let fault = request_fault(s.len(), q);
-    if fault != 0 {
-        return refused(no_policy(), fault);
-    }
-    let p = read_to(s, s.len());
-    if p.fault != 0 {
-        return p;
-    }
-    ended(s, p, q)
-}
-
-// 12, 3, 13, 4 and 14.
-fn ended(s: &[u8], p: Policy, q: Request) -> Policy {
-    if p.depth != 1 {
-        return refused_at(p, UNJOINED, s.len());
-    }
-    if q.room < workspace_need(p.deepest, q) as u64 {
-        return refused_at(p, CRAMPED, 0);
-    }
-    if has_absent(q.assumed_true | q.assumed_false, p.atoms.count) {
-        return refused_at(p, ABSENT, s.len());
-    }
-    if q.assumed_true & q.assumed_false != 0 {
-        return refused_at(p, CLASH, 0);
-    }
+// The whole sheet read.
+pub fn check(s: &[u8], q: Request) -> Result<Policy, Unanswered> {
+    check_length(s)?;
+    refuse_if(!is_limit(q.pair_limit), Reason::Limits, 0)?;
+    refuse_if(!is_limit(q.subset_limit), Reason::Limits, 0)?;
+    let p = read_whole(s)?;
+    refuse_if(
+        q.room < workspace_need(p.deepest, q) as u64,
+        Reason::Cramped,
+        0,
+    )?;
+    check_pins(s, p, q)?;
     if p.atoms.count > 7 || p.rules.count > 8 {
-        return refused(p, LARGE);
+        return Err(Unanswered::NotTried);
     }
-    if is_start(s, q) {
-        return p;
-    }
-    refused_at(p, OFFSET, q.asked)
+    refuse_if(!is_start(s, q), Reason::Offset, q.asked)?;
+    Ok(p)
 }
 
-fn refused_at(p: Policy, fault: u64, place: usize) -> Policy {
-    let mut next = refused(p, fault);
-    next.place = place;
-    next
+// 1.
+pub fn check_length(s: &[u8]) -> Result<(), Unanswered>
+    ensures { OnOk result (length s.now ≤ byte_limit) }
+{
+    refuse_if(s.len() > BYTE_LIMIT, Reason::Overlong, 0)
+}
+
+fn is_limit(x: u64) -> bool {
+    0 < x && x <= TABLE_LIMIT
+}
+
+// 5 to 12.
+pub fn read_whole(s: &[u8]) -> Result<Policy, Unanswered>
+    ensures { IfOk result (λ p. (p.fault ≡ None) × (p.depth ≡ 1)) }
+{
+    let p = read_to(s, s.len());
+    if let Some(reason) = p.fault {
+        return Err(Unanswered::Refused(reason.number(), p.place));
+    }
+    refuse_if(p.depth != 1, Reason::Unjoined, s.len())?;
+    Ok(p)
+}
+
+// 13 and 4.
+fn check_pins(s: &[u8], p: Policy, q: Request) -> Result<(), Unanswered> {
+    refuse_if(
+        has_absent(q.assumed_true | q.assumed_false, p.atoms.count),
+        Reason::Absent,
+        s.len(),
+    )?;
+    refuse_if(q.assumed_true & q.assumed_false != 0, Reason::Clash, 0)
 }
 
 // Whether a command starts at the offset that a report asks for, of a sheet without faults.
@@ -57,31 +66,7 @@ fn is_start(s: &[u8], q: Request) -> bool {
     if !q.is_report {
         return true;
     }
-    if q.asked >= s.len() {
-        return false;
-    }
-    read_to(s, q.asked).at == q.asked
-}
-
-// 1 and 2; 0 where both pass.
-fn request_fault(bytes: usize, q: Request) -> u64 {
-    if bytes > BYTE_LIMIT {
-        return OVERLONG;
-    }
-    if !is_limit(q.pair_limit) {
-        return LIMITS;
-    }
-    if !is_limit(q.subset_limit) {
-        return LIMITS;
-    }
-    0
-}
-
-fn is_limit(x: u64) -> bool {
-    if x < 1 {
-        return false;
-    }
-    x <= TABLE_LIMIT
+    q.asked < s.len() && read_to(s, q.asked).at == q.asked
 }
 
 // What a sheet needs that is read whole.

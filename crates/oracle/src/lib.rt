@@ -1,45 +1,44 @@
 // Documents 01 and 02 by enumeration, from the meaning of the rules alone: what a small sheet says, its tables and its answers. For testing the engine
-// against; slow and simple. It shares with the engine the limits' and refusals' numbers and no function or definition of tables. What a rule, a
+// against; slow and simple. It shares with the engine the limits, the refusals' reasons and their numbers, and no function or definition of tables. What a rule, a
 // smaller plan and pins mean is proved (crate meaning); all else here is proved to stay within bounds and to end, and is right as far as it is tried
 // (crate trials).
 #![tactic(auto)]
+
+ghost use Rattle.std.specs.Prelude.{◌≡◌, false, OnOk};
 
 pub mod answering;
 pub mod checking;
 pub mod naming;
 
-// What a decision or a report answers: the value of a yes is the mask shown (plainly 0); a report has the kind YES, its number of entries for a value,
-// and in place of a place its number of words.
-#[derive(Clone, Copy)]
-pub struct Answer {
-    pub kind: u64,
-    pub value: u64,
-    pub place: usize,
+use expression::refusals::Reason;
+
+// What a decision or a report answers.
+#[derive(Clone, Copy, PartialEq, Eq)]
+pub enum Answer {
+    No,
+    // with the mask shown, plainly 0
+    Yes(u64),
+    // the numbers of its entries and words
+    Report(u64, usize),
 }
 
-pub const NO: u64 = 0;
-
-pub const YES: u64 = 1;
-
-pub const REFUSED: u64 = 2;
-
-// More atoms or rules than are kept.
-pub const NOT_TRIED: u64 = 3;
-
-pub fn answered(kind: u64, value: u64, place: usize) -> Answer {
-    Answer {
-        kind: kind,
-        value: value,
-        place: place,
-    }
+// Why there is no answer.
+#[derive(Clone, Copy, PartialEq, Eq)]
+pub enum Unanswered {
+    // by a refusal with its number and place
+    Refused(u64, usize),
+    // for more atoms or rules than are kept
+    NotTried,
 }
 
-pub fn is_same(a: Answer, b: Answer) -> bool {
-    if a.kind != b.kind {
-        return false;
+pub type Answered = Result<Answer, Unanswered>;
+
+// A refusal where it holds.
+fn refuse_if(holds: bool, reason: Reason, place: usize) -> Result<(), Unanswered>
+    ensures { OnOk result (holds ≡ false) }
+{
+    if holds {
+        return Err(Unanswered::Refused(reason.number(), place));
     }
-    if a.value != b.value {
-        return false;
-    }
-    a.place == b.place
+    Ok(())
 }

@@ -34,12 +34,10 @@ pub fn is_smaller(p: Policy, interpretation: u64, subset: u64) -> bool {
 // The rules of the newest operand that it does not meet.
 fn unmet(p: Policy, interpretation: u64, subset: u64) -> u64 {
     let mut rules: u64 = 0;
-    let mut k: u64 = 0;
-    while k < 8 {
+    for k in 0..8 {
         if !meets(p, k, interpretation, subset) {
-            rules = rules | (1u64 << k);
+            rules |= 1 << k;
         }
-        k += 1;
     }
     rules & members_of(p.rules, p.depth)
 }
@@ -61,14 +59,5 @@ pub fn is_model(p: Policy, interpretation: u64, subset: u64) -> bool {
 
 // Whether nothing smaller than an interpretation is a model of its reduct. A proper subset is a lesser mask.
 pub fn is_least(p: Policy, interpretation: u64) -> bool {
-    let mut j: u64 = 0;
-    while j < interpretation {
-        if is_smaller(p, interpretation, j) {
-            if is_model(p, interpretation, j) {
-                return false;
-            }
-        }
-        j += 1;
-    }
-    true
+    !(0..interpretation).any(|j| is_smaller(p, interpretation, j) && is_model(p, interpretation, j))
 }

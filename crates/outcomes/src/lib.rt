@@ -33,8 +33,7 @@ pub fn place(o: Outcome) -> u64
     ensures { result ≡ place_of o }
 {
     match o {
-        Outcome::Yes(_) => 0,
-        Outcome::No => 0,
+        Outcome::Yes(_) | Outcome::No => 0,
         Outcome::Refused(_, at) => at as u64,
     }
 }

@@ -13,14 +13,11 @@ use Rattle.lists.proofs.Members.{and_both}
 use Rattle.expression.specs.declared.Command.{Command}
 use Rattle.expression.specs.declared.Command.TheVariants.{Name}
 use Rattle.expression.specs.declared.Counts.{Counts}
-use Rattle.expression.specs.declared.Checked.TheVariants.{Passed}
-use Rattle.expression.specs.declared.Read.{Read}
-use Rattle.expression.specs.declared.Read.TheVariants.{Command as Got, Fault}
-use Rattle.expression.specs.Commands.{read_at}
+use Rattle.expression.specs.Commands.{Read, Got, Fault, read_at}
 use Rattle.expression.specs.Effects.{effect}
 use Rattle.expression.specs.Reading.{new_atoms, no_counts, counted, count_fault, Placed, reading}
 use Rattle.expression.specs.Places.{locate_from, locate}
-use Rattle.expression.specs.Checks.{Request, check}
+use Rattle.expression.specs.Checks.{Passed, Request, check}
 use Rattle.expression.proofs.Commands.{read-ends}
 use Rattle.expression.proofs.Totals.{passes-operands}
 use Rattle.expression.proofs.Checks.{Joined}

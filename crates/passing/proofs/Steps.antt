@@ -1,4 +1,5 @@
 -- A step over a name moves only the place (02, Item 1): no count and no word changes, and it is not refused. Assumes nothing.
+use Rattle.std.specs.Prelude.{Some}
 use mathlib.Core.Path.{◌≡◌, refl, sym, ap, ◌∙◌, subst}
 use mathlib.Core.List.{List, [], ◌∷◌, map}
 use Prim.Native.Nat.{ℕ, ◌-◌, zero-le}
@@ -9,17 +10,14 @@ use Rattle.lists.specs.Sorted.{Rising}
 use Rattle.labels.specs.Labels.{label_count}
 use Rattle.expression.specs.declared.Command.TheVariants.{Name}
 use Rattle.expression.specs.declared.Counts.{Counts}
-use Rattle.expression.specs.declared.Checked.TheVariants.{Passed}
-use Rattle.expression.specs.declared.Located.TheVariants.{Before}
-use Rattle.expression.specs.declared.Read.TheVariants.{Command as Got}
 use Rattle.expression.specs.Limits.{depth_limit, row_words, areas_for}
-use Rattle.expression.specs.Commands.{read_at}
-use Rattle.expression.specs.Checks.{Request, check, depth_of, need_of}
+use Rattle.expression.specs.Commands.{Got, read_at}
+use Rattle.expression.specs.Checks.{Passed, Request, check, depth_of, need_of}
 use Rattle.semantics.specs.Expressions.{act}
 use Rattle.tables.specs.Definitions.{Pair}
 use Rattle.decisions.specs.Decisions.{pairs_fault, newest}
 use Rattle.entries.specs.declared.Carry.TheVariants.{Nothing}
-use Rattle.workspace.specs.Workspace.{workspace_of, Sound, pairs_of, counts_of}
+use Rattle.workspace.specs.Workspace.{workspace_of, Sound, counts_of}
 use Rattle.workspace.proofs.Faults.{no-fault}
 use Rattle.workspace.proofs.Acting.{sound-pairs}
 use Rattle.stacks.proofs.Clearing.{counts-pairs}
@@ -27,8 +25,7 @@ use Rattle.advances.specs.Advances.{Stands}
 use Rattle.advances.proofs.Steps.{fault-none}
 use Rattle.advances.proofs.Bare.{bare, bare-tables}
 use Rattle.records.specs.declared.Record.{Record}
-use Rattle.records.specs.declared.Progress.TheVariants.{Moved}
-use Rattle.records.specs.Steps.{found, formed_at, moves, step}
+use Rattle.records.specs.Steps.{Moved, found, formed_at, moves, step}
 use Rattle.record_tests.proofs.Forming.{found-many, stands}
 use Rattle.starts.proofs.Cases.{step-formed, command-read, move-done}
 
@@ -51,7 +48,7 @@ none-fault P G = sound-fault P G [] (none-sound (row_words G) P)
 
 -- ---- a record of the form asked for
 
-module _ (a : Request) (r : Record) (ws : List ℕ) {z n : Counts} (passed : check label_count a ≡ Passed z) (formed : formed_at label_count a r ws ≡ Before n) (room : a.room ≡ length ws) (eight : length r.counts ≡ depth_limit) where
+module _ (a : Request) (r : Record) (ws : List ℕ) {z n : Counts} (passed : check label_count a ≡ Passed z) (formed : formed_at label_count a r ws ≡ Some n) (room : a.room ≡ length ws) (eight : length r.counts ≡ depth_limit) where
   abbrev w : ℕ
   w = row_words a.subset_limit
 
@@ -85,7 +82,7 @@ module _ (a : Request) (r : Record) (ws : List ℕ) {z n : Counts} (passed : che
 
 -- for a record of eight counts and all words of the workspace, as every call has
 pub step-passes : (a : Request) {z : Counts} → check label_count a ≡ Passed z → (r : Record) (ws : List ℕ) → length r.counts ≡ depth_limit → a.room ≡ length ws
-    → {n : Counts} → formed_at label_count a r ws ≡ Before n → {x next : ℕ} → read_at label_count a.bytes r.place ≡ Got (Name x) next
+    → {n : Counts} → formed_at label_count a r ws ≡ Some n → {x next : ℕ} → read_at label_count a.bytes r.place ≡ Got (Name x) next
     → step label_count a r ws ≡ record { state = record { place = next; tables = r.tables; counts = r.counts }; answer = Moved; words = ws }
 unfolding act
 step-passes a passed r ws eight room {n} formed {x} {next} read =

@@ -10,11 +10,9 @@ use lib.ListN.{length}
 use Rattle.lists.specs.Lists.{All}
 use Rattle.expression.specs.declared.Command.TheVariants.{Name}
 use Rattle.expression.specs.declared.Counts.{Counts}
-use Rattle.expression.specs.declared.Checked.TheVariants.{Passed}
-use Rattle.expression.specs.declared.Read.TheVariants.{Command as Got}
-use Rattle.expression.specs.Commands.{read_at}
+use Rattle.expression.specs.Commands.{Got, read_at}
 use Rattle.expression.specs.Reading.{new_atoms, no_counts, counted, Placed, reading}
-use Rattle.expression.specs.Checks.{Request, check}
+use Rattle.expression.specs.Checks.{Passed, Request, check}
 use Rattle.expression.proofs.Accepted.{check-accepted}
 use Rattle.expression.proofs.Remaining.{Remains, remains-start, remains-next, remains-end}
 use Rattle.semantics.specs.Expressions.{Operations, act}

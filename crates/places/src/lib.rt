@@ -6,22 +6,21 @@ ghost use Rattle.labels.specs.Labels.{label_count};
 ghost use Rattle.expression.specs.Places.{locate};
 
 use commands::counting::{counted, no_counts};
-use expression::{Located, Read};
+use expression::Counts;
 use reader::read_next;
 
 // The counts before the offset asked, if it is a command's start or the end; after a command that is refused there is no start.
-pub fn locate(s: &[u8], asked: usize) -> Located
+pub fn locate(s: &[u8], asked: usize) -> Option<Counts>
     ensures { result ≡ locate label_count s.now asked }
 {
     let mut at: usize = 0;
     let mut n = no_counts();
     while at != asked {
-        let r = read_next(s, at);
-        let Read::Command(c, next) = r else {
-            return Located::Nowhere;
+        let Ok((c, next)) = read_next(s, at) else {
+            return None;
         };
         n = counted(n, c);
         at = next;
     }
-    Located::Before(n)
+    Some(n)
 }

@@ -2,27 +2,15 @@
 use crate::sets::{linked, moved, set_at, with};
 use crate::{Members, Policy};
 use expression::limits::{ATOM_LIMIT, DEPTH_LIMIT, RULE_LIMIT};
-use expression::refusals::{BARE, CROWDED, DEEP};
+use expression::refusals::Reason;
 
 // ---- members
-
-// Counts are under 512: kept so here, no caller has to know it.
-fn more(n: u64) -> u64 {
-    n % 512 + 1
-}
-
-fn less(n: u64) -> u64 {
-    if n == 0 {
-        return 0;
-    }
-    n - 1
-}
 
 // One more, with a label, as an operand of its own.
 fn added(m: Members, operand: u64, label: u64) -> Members {
     let bit = kept_bit(m.count);
     Members {
-        count: more(m.count),
+        count: m.count.saturating_add(1),
         labels: with(m.labels, label, bit),
         operands: with(m.operands, operand, bit),
     }
@@ -47,21 +35,24 @@ fn labelled(m: Members, operand: u64, label: u64) -> u64 {
 }
 
 fn united(m: Members, newest: u64) -> Members {
-    let mut next = m;
-    next.operands = moved(m.operands, newest, less(newest), members_of(m, newest));
-    next
+    let below = newest.saturating_sub(1);
+    Members {
+        operands: moved(m.operands, newest, below, members_of(m, newest)),
+        ..m
+    }
 }
 
 fn relabelled(m: Members, newest: u64, i: u64, j: u64) -> Members {
-    let mut next = m;
-    next.labels = moved(m.labels, i, j, labelled(m, newest, i));
-    next
+    Members {
+        labels: moved(m.labels, i, j, labelled(m, newest, i)),
+        ..m
+    }
 }
 
 // ---- commands
 
-// 9 to 11 for a command byte; 0 where all pass.
-pub fn fault_of(p: Policy, byte: u8) -> u64 {
+// 9 to 11 for a command byte, if one of them refuses it.
+pub fn fault_of(p: Policy, byte: u8) -> Option<Reason> {
     match byte {
         0x11 | 0x13 => leaf_fault(p.depth, p.atoms.count, ATOM_LIMIT),
         0x12 => leaf_fault(p.depth, p.rules.count, RULE_LIMIT),
@@ -70,21 +61,15 @@ pub fn fault_of(p: Policy, byte: u8) -> u64 {
     }
 }
 
-fn leaf_fault(depth: u64, count: u64, limit: u64) -> u64 {
+fn leaf_fault(depth: u64, count: u64, limit: u64) -> Option<Reason> {
     if count >= limit {
-        return CROWDED;
+        return Some(Reason::Crowded);
     }
-    if depth >= DEPTH_LIMIT {
-        return DEEP;
-    }
-    0
+    (depth >= DEPTH_LIMIT).then_some(Reason::Deep)
 }
 
-fn operand_fault(depth: u64, needed: u64) -> u64 {
-    if depth < needed {
-        return BARE;
-    }
-    0
+fn operand_fault(depth: u64, needed: u64) -> Option<Reason> {
+    (depth < needed).then_some(Reason::Bare)
 }
 
 // A command that has no fault. A name changes nothing that is built (02, Item 1).
@@ -95,55 +80,62 @@ pub fn apply(p: Policy, byte: u8, i: u64, j: u64) -> Policy {
         0x13 => add_external(p, i),
         0x21 => unite(p),
         0x31 => relabel(p, i, j),
-        0x51 => p,
-        _ => connect(p, byte, i, j),
+        0x41 | 0x42 | 0x43 => connect(p, byte, i, j),
+        _ => p,
     }
 }
 
 // With a new operand.
 fn deeper(p: Policy) -> Policy {
-    let mut next = p;
-    next.depth = more(p.depth);
-    if next.depth > p.deepest {
-        next.deepest = next.depth;
+    let depth = p.depth.saturating_add(1);
+    Policy {
+        depth,
+        deepest: p.deepest.max(depth),
+        ..p
     }
-    next
 }
 
 fn add_atom(p: Policy, label: u64) -> Policy {
-    let mut next = deeper(p);
-    next.atoms = added(p.atoms, next.depth, label);
-    next
+    let next = deeper(p);
+    Policy {
+        atoms: added(p.atoms, next.depth, label),
+        ..next
+    }
 }
 
 // An atom in every other respect (02, Item 9).
 fn add_external(p: Policy, label: u64) -> Policy {
-    let mut next = add_atom(p, label);
-    next.external = p.external | kept_bit(p.atoms.count);
-    next
+    Policy {
+        external: p.external | kept_bit(p.atoms.count),
+        ..add_atom(p, label)
+    }
 }
 
 fn add_rule(p: Policy, label: u64) -> Policy {
-    let mut next = deeper(p);
-    next.rules = added(p.rules, next.depth, label);
-    next
+    let next = deeper(p);
+    Policy {
+        rules: added(p.rules, next.depth, label),
+        ..next
+    }
 }
 
 // 01: join.
 fn unite(p: Policy) -> Policy {
-    let mut next = p;
-    next.depth = less(p.depth);
-    next.atoms = united(p.atoms, p.depth);
-    next.rules = united(p.rules, p.depth);
-    next
+    Policy {
+        depth: p.depth.saturating_sub(1),
+        atoms: united(p.atoms, p.depth),
+        rules: united(p.rules, p.depth),
+        ..p
+    }
 }
 
 // 01: move.
 fn relabel(p: Policy, i: u64, j: u64) -> Policy {
-    let mut next = p;
-    next.atoms = relabelled(p.atoms, p.depth, i, j);
-    next.rules = relabelled(p.rules, p.depth, i, j);
-    next
+    Policy {
+        atoms: relabelled(p.atoms, p.depth, i, j),
+        rules: relabelled(p.rules, p.depth, i, j),
+        ..p
+    }
 }
 
 // 01: link, which has no direction (02, Item 11). The first half changes no label and no operand, so the second is judged on the operand as it was.
@@ -155,17 +147,18 @@ fn connect(p: Policy, byte: u8, i: u64, j: u64) -> Policy {
 fn put_atoms(p: Policy, byte: u8, i: u64, j: u64) -> Policy {
     let atoms = labelled(p.atoms, p.depth, i);
     let rules = labelled(p.rules, p.depth, j);
-    let mut next = p;
-    next.heads = linked(p.heads, chosen(byte, 0x41, rules), atoms);
-    next.positives = linked(p.positives, chosen(byte, 0x42, rules), atoms);
-    next.negatives = linked(p.negatives, chosen(byte, 0x43, rules), atoms);
-    next
-}
-
-// The rules, if the command is the one asked for.
-fn chosen(byte: u8, asked: u8, rules: u64) -> u64 {
-    if byte != asked {
-        return 0;
+    match byte {
+        0x41 => Policy {
+            heads: linked(p.heads, rules, atoms),
+            ..p
+        },
+        0x42 => Policy {
+            positives: linked(p.positives, rules, atoms),
+            ..p
+        },
+        _ => Policy {
+            negatives: linked(p.negatives, rules, atoms),
+            ..p
+        },
     }
-    rules
 }

@@ -5,10 +5,11 @@
 pub mod building;
 pub mod sets;
 
-use crate::sets::{Sets, no_sets};
+use crate::sets::Sets;
+use expression::refusals::Reason;
 
 // Atoms (01: copies), or rules. The first eight are kept, the others counted.
-#[derive(Clone, Copy)]
+#[derive(Clone, Copy, Default)]
 pub struct Members {
     pub count: u64,
     // for each label (01: group) and for each operand (01: part) the set of its members; see the module sets
@@ -17,12 +18,12 @@ pub struct Members {
 }
 
 // What the commands so far built. An operand's number is the depth at which it stands on the stack: the newest is number `depth`.
-#[derive(Clone, Copy)]
+#[derive(Clone, Copy, Default)]
 pub struct Policy {
     // where the next command starts
     pub at: usize,
-    // the refusal of the last command, 0 if none, and where it started
-    pub fault: u64,
+    // why the last command is refused, if it is, and where it started
+    pub fault: Option<Reason>,
     pub place: usize,
     // how many operands there are, and the most there were at once
     pub depth: u64,
@@ -39,31 +40,12 @@ pub struct Policy {
 
 // Before the first command.
 pub fn no_policy() -> Policy {
+    Policy::default()
+}
+
+pub fn refused(p: Policy, fault: Reason) -> Policy {
     Policy {
-        at: 0,
-        fault: 0,
-        place: 0,
-        depth: 0,
-        deepest: 0,
-        atoms: no_members(),
-        rules: no_members(),
-        external: 0,
-        heads: no_sets(),
-        positives: no_sets(),
-        negatives: no_sets(),
+        fault: Some(fault),
+        ..p
     }
-}
-
-fn no_members() -> Members {
-    Members {
-        count: 0,
-        labels: no_sets(),
-        operands: no_sets(),
-    }
-}
-
-pub fn refused(p: Policy, fault: u64) -> Policy {
-    let mut next = p;
-    next.fault = fault;
-    next
 }

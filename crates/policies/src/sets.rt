@@ -1,16 +1,17 @@
-// Sixteen sets of numbers under 8: set k is byte k of two words, and member x of it is bit x. Sets count modulo 16.
+// Sixteen sets of numbers under 8: set k is byte k of two words, and member x of it is bit x. Sets count modulo 16. Words, not an array of bytes: the
+// functions below are public, and would ask for narrower sets.
 
 // labels::LABELS at the width of a word.
 const LABELS: u64 = labels::LABELS as u64;
 
-#[derive(Clone, Copy)]
+#[derive(Clone, Copy, Default)]
 pub struct Sets {
     pub low: u64,
     pub high: u64,
 }
 
 pub fn no_sets() -> Sets {
-    Sets { low: 0, high: 0 }
+    Sets::default()
 }
 
 // Set k alone.
@@ -52,12 +53,10 @@ pub fn moved(sets: Sets, i: u64, j: u64, part: u64) -> Sets {
 // The labels whose sets have a member of `set`.
 pub fn meeting(sets: Sets, set: u64) -> u32 {
     let mut numbers: u32 = 0;
-    let mut k: u64 = 0;
-    while k < LABELS {
+    for k in 0..LABELS {
         if set_at(sets, k) & set != 0 {
-            numbers = numbers | (1u32 << k);
+            numbers |= 1 << k;
         }
-        k += 1;
     }
     numbers
 }
@@ -65,12 +64,10 @@ pub fn meeting(sets: Sets, set: u64) -> u32 {
 // More members in each set of a rule that has its number in `numbers`.
 pub fn linked(sets: Sets, numbers: u64, more: u64) -> Sets {
     let mut next = sets;
-    let mut k: u64 = 0;
-    while k < 8 {
+    for k in 0..8 {
         if (numbers >> k) % 2 == 1 {
             next = with(next, k, more);
         }
-        k += 1;
     }
     next
 }

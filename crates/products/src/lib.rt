@@ -56,18 +56,17 @@ fn insert_unions(run: &mut [u32], n: usize, seen: &mut [u32; 1024], src: &[u32],
     ensures { GrownKnown (insert_all compare_numbers second (map (bit_or q) src.now) (take n run.old)) result run.old run.new seen.new }
 {
     let mut m = n;
-    let mut i = 0;
-    while i < src.len() {
-        m = insert_seen(run, m, seen, q | src[i]);
+    for x in src {
+        m = insert_seen(run, m, seen, q | *x);
         if run.len() < m {
             return m;
         }
-        i += 1;
     }
     m
 }
 
 // x behind the first n numbers, unless the filter holds it.
+#[tactic(auto, using(crate::proofs::Filtering::held, crate::proofs::Filtering::appended))]
 fn append_seen(run: &mut [u32], n: usize, seen: &mut [u32; 1024], x: u32) -> usize
     requires n_in_bounds { n < length run.old }
     requires known { Known seen.old (set_of (take n run.old)) }
@@ -89,10 +88,8 @@ fn append_unions(run: &mut [u32], n: usize, seen: &mut [u32; 1024], src: &[u32],
     ensures { Gathered (insert_all compare_numbers second (map (bit_or q) src.now) (set_of (take n run.old))) result run.new seen.new }
 {
     let mut m = n;
-    let mut i = 0;
-    while i < src.len() {
-        m = append_seen(run, m, seen, q | src[i]);
-        i += 1;
+    for x in src {
+        m = append_seen(run, m, seen, q | *x);
     }
     m
 }
@@ -117,13 +114,11 @@ fn gather_products(run: &mut [u32], n: usize, seen: &mut [u32; 1024], a: &[u32],
     ensures { Gathered (insert_all compare_numbers second (products bit_or a.now b.now) (set_of (take n run.old))) result run.new seen.new }
 {
     let mut m = n;
-    let mut i = 0;
-    while i < a.len() {
-        m = gather_unions(run, m, seen, b, a[i]);
+    for x in a {
+        m = gather_unions(run, m, seen, b, *x);
         if run.len() < m {
             return m;
         }
-        i += 1;
     }
     m
 }

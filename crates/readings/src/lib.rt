@@ -1,9 +1,9 @@
-// A sheet command by command: the oracle's reading, which shares with the engine's only the numbers of limits, labels and refusals.
+// A sheet command by command: the oracle's reading, which shares with the engine's only the limits, the labels and the refusals' reasons.
 #![tactic(auto)]
 
-ghost use Rattle.std.specs.Prelude.{◌+◌, ◌<◌, ◌≤◌, length};
+ghost use Rattle.std.specs.Prelude.{◌+◌, ◌<◌, ◌≤◌, length, IfSome};
 
-use expression::refusals::{CUT, GROUP, SAME, UNKNOWN};
+use expression::refusals::Reason;
 use policies::building::{apply, fault_of};
 use policies::{Policy, no_policy, refused};
 
@@ -17,7 +17,7 @@ pub fn read_to(s: &[u8], end: usize) -> Policy
     let mut p = no_policy();
     while p.at < end {
         p = advance(s, p);
-        if p.fault != 0 {
+        if p.fault.is_some() {
             return p;
         }
     }
@@ -30,31 +30,33 @@ pub fn advance(s: &[u8], p: Policy) -> Policy
     ensures { (p.at < result.at) × (result.at ≤ length s.now) }
 {
     let at = p.at;
-    let mut next = done(s, p);
-    next.place = at;
-    next.at = at + length_at(s, at);
-    next
+    Policy {
+        place: at,
+        at: at + length_at(s, at),
+        ..done(s, p)
+    }
 }
 
 fn done(s: &[u8], p: Policy) -> Policy
     requires { p.at < length s.now }
 {
     let at = p.at;
-    let fault = fault_at(s, p);
-    if fault != 0 {
-        return refused(p, fault);
+    match fault_at(s, p) {
+        Some(fault) => refused(p, fault),
+        None => apply(p, s[at], operand(s, at, 1), operand(s, at, 2)),
     }
-    apply(p, s[at], operand(s, at, 1), operand(s, at, 2))
 }
 
-// How many bytes a command has; 0 where there is none.
-fn size(byte: u8) -> usize {
+// How many bytes a command has, if there is one.
+fn size(byte: u8) -> Option<usize>
+    ensures { IfSome result (λ n. 0 < n) }
+{
     match byte {
-        0x21 => 1,
-        0x11 | 0x12 | 0x13 => 2,
-        0x31 | 0x41 | 0x42 | 0x43 => 3,
-        0x51 => 17,
-        _ => 0,
+        0x21 => Some(1),
+        0x11 | 0x12 | 0x13 => Some(2),
+        0x31 | 0x41 | 0x42 | 0x43 => Some(3),
+        0x51 => Some(17),
+        _ => None,
     }
 }
 
@@ -63,64 +65,48 @@ fn length_at(s: &[u8], at: usize) -> usize
     requires { at < length s.now }
     ensures { (0 < result) × (at + result ≤ length s.now) }
 {
-    let n = size(s[at]);
-    if n == 0 {
-        return 1;
+    match size(s[at]) {
+        Some(n) if n <= s.len() - at => n,
+        _ => 1,
     }
-    if s.len() - at < n {
-        return 1;
-    }
-    n
 }
 
-// 5 to 11; 0 where all pass.
-fn fault_at(s: &[u8], p: Policy) -> u64
+// 5 to 11.
+fn fault_at(s: &[u8], p: Policy) -> Option<Reason>
     requires { p.at < length s.now }
 {
-    let at = p.at;
-    let fault = bytes_fault(s, at);
-    if fault != 0 {
+    let fault = bytes_fault(s, p.at);
+    if fault.is_some() {
         return fault;
     }
-    fault_of(p, s[at])
+    fault_of(p, s[p.at])
 }
 
 // 5 to 8.
-fn bytes_fault(s: &[u8], at: usize) -> u64
+fn bytes_fault(s: &[u8], at: usize) -> Option<Reason>
     requires { at < length s.now }
 {
-    let n = size(s[at]);
-    if n == 0 {
-        return UNKNOWN;
+    match size(s[at]) {
+        None => Some(Reason::Unknown),
+        Some(n) if s.len() - at < n => Some(Reason::Cut),
+        Some(n) => operands_fault(n, operand(s, at, 1), operand(s, at, 2)),
     }
-    if s.len() - at < n {
-        return CUT;
-    }
-    operands_fault(n, operand(s, at, 1), operand(s, at, 2))
 }
 
 // Of a command of n bytes the first n - 1 operands count; those of a name are no operands (02, Item 1).
-fn operands_fault(n: usize, i: u64, j: u64) -> u64 {
-    if n < 2 || n > 3 {
-        return 0;
+fn operands_fault(n: usize, i: u64, j: u64) -> Option<Reason> {
+    match n {
+        2 => (i >= LABELS).then_some(Reason::Group),
+        3 => pair_fault(i, j),
+        _ => None,
     }
-    if i >= LABELS {
-        return GROUP;
-    }
-    if n < 3 {
-        return 0;
-    }
-    pair_fault(i, j)
 }
 
-fn pair_fault(i: u64, j: u64) -> u64 {
-    if j >= LABELS {
-        return GROUP;
+fn pair_fault(i: u64, j: u64) -> Option<Reason> {
+    if i >= LABELS || j >= LABELS {
+        return Some(Reason::Group);
     }
-    if i == j {
-        return SAME;
-    }
-    0
+    (i == j).then_some(Reason::Same)
 }
 
 // The byte so far behind an offset, 0 behind the end.
@@ -130,9 +116,5 @@ fn operand(s: &[u8], at: usize, far: usize) -> u64
     if s.len() - at <= far {
         return 0;
     }
-    wide(s[at + far])
-}
-
-fn wide(x: u8) -> u64 {
-    x as u64
+    u64::from(s[at + far])
 }

@@ -1,8 +1,9 @@
 -- What a running record of the form asked for holds (01: 18): the tables stand in its words, and the commands before its place left as many. Assumes nothing.
+use Rattle.std.specs.Prelude.{Option, Some, None}
 use mathlib.Core.Path.{◌≡◌, refl, sym, ap, ap₂, ◌∙◌, subst}
 use mathlib.Core.Bool.{Bool, true, false, cond}
 use mathlib.Core.List.{List, [], ◌++◌, map}
-use Prim.Native.Nat.{ℕ, ◌+◌, ◌-◌, ◌*◌, ◌≤◌}
+use Prim.Native.Nat.{ℕ, ◌-◌, ◌*◌, ◌≤◌}
 use native.Mathlib.Nat.{mul-le-mul_right}
 use native.Mathlib.Omega.{arith}
 use lib.Dec.{eqb}
@@ -13,14 +14,10 @@ use Rattle.lists.proofs.Members.{and_both}
 use Rattle.labels.specs.Labels.{label_count}
 use Rattle.expression.specs.declared.Command.{Command}
 use Rattle.expression.specs.declared.Counts.{Counts}
-use Rattle.expression.specs.declared.Checked.TheVariants.{Passed}
-use Rattle.expression.specs.declared.Located.{Located}
-use Rattle.expression.specs.declared.Located.TheVariants.{Before, Nowhere}
-use Rattle.expression.specs.declared.Read.TheVariants.{Command as Got}
 use Rattle.expression.specs.Limits.{atom_limit, depth_limit, row_words, areas_for}
-use Rattle.expression.specs.Commands.{Suits, read_at}
+use Rattle.expression.specs.Commands.{Got, Suits, read_at}
 use Rattle.expression.specs.Reading.{depth_after, counted, capped}
-use Rattle.expression.specs.Checks.{Request, check, depth_of, need_of}
+use Rattle.expression.specs.Checks.{Passed, Request, check, depth_of, need_of}
 use Rattle.expression.specs.Places.{locate}
 use Rattle.expression.proofs.Totals.{counted-limited, capped-limited, passes-operands}
 use Rattle.expression.proofs.Accepted.{Accepted, check-accepted}
@@ -64,20 +61,20 @@ module _ (a : Request) (r : Record) (ws : List ℕ) where
   areas = areas_for (depth_of label_count a.bytes)
 
   -- the test by its parts
-  both-tests : (n : Counts) (x : Located) → locate label_count a.bytes r.place ≡ x → formed_at label_count a r ws ≡ Before n → (x ≡ Before n) × (is_formed label_count a n r ws ≡ true)
+  both-tests : (n : Counts) (x : Option Counts) → locate label_count a.bytes r.place ≡ x → formed_at label_count a r ws ≡ Some n → (x ≡ Some n) × (is_formed label_count a n r ws ≡ true)
   unfolding formed_at
-  both-tests n Nowhere e h = let g : Nowhere ≡ Before n = rw (e, formed_at) at h in let q : ◌≡◌ {A = ℕ} 0 1 = cc g in absurd (omega arith)
-  both-tests n (Before m) e h = step (is_formed label_count a m r ws) refl (rw (e, formed_at) at h)
+  both-tests n None e h = let g : None ≡ Some n = rw (e, formed_at) at h in let q : ◌≡◌ {A = ℕ} 0 1 = cc g in absurd (omega arith)
+  both-tests n (Some m) e h = step (is_formed label_count a m r ws) refl (rw (e, formed_at) at h)
     where
-      step : (b : Bool) → is_formed label_count a m r ws ≡ b → cond b (Before m) Nowhere ≡ Before n → (Before m ≡ Before n) × (is_formed label_count a n r ws ≡ true)
+      step : (b : Bool) → is_formed label_count a m r ws ≡ b → cond b (Some m) None ≡ Some n → (Some m ≡ Some n) × (is_formed label_count a n r ws ≡ true)
       step true f g = let j : m ≡ n = cc g in (g, subst (λ (y : Counts). is_formed label_count a y r ws ≡ true) j f)
       step false f g = let q : ◌≡◌ {A = ℕ} 0 1 = cc g in absurd (omega arith)
 
-  module _ {z n : Counts} (passed : check label_count a ≡ Passed z) (formed : formed_at label_count a r ws ≡ Before n) (room : a.room ≡ length ws) (eight : length r.counts ≡ depth_limit) where
+  module _ {z n : Counts} (passed : check label_count a ≡ Passed z) (formed : formed_at label_count a r ws ≡ Some n) (room : a.room ≡ length ws) (eight : length r.counts ≡ depth_limit) where
     abbrev A : Accepted label_count a z
     A = check-accepted label_count a z passed
 
-    pub located : locate label_count a.bytes r.place ≡ Before n
+    pub located : locate label_count a.bytes r.place ≡ Some n
     located = (both-tests n (locate label_count a.bytes r.place) refl formed).0
 
     -- where the walk over the expression has come to

@@ -1,4 +1,5 @@
 -- A place that a walk over a checked expression comes to: which commands remain there. Over K labels. Assumes nothing.
+use Rattle.std.specs.Prelude.{Some, None}
 use mathlib.Core.Path.{◌≡◌, refl, subst}
 use mathlib.Core.Bool.{Bool, true, false}
 use mathlib.Core.List.{List}
@@ -9,10 +10,7 @@ use lib.ListN.{length}
 use borrow.Author.Tests.{eqb-true}
 use Rattle.expression.specs.declared.Command.{Command}
 use Rattle.expression.specs.declared.Counts.{Counts}
-use Rattle.expression.specs.declared.Located.TheVariants.{Before, Nowhere}
-use Rattle.expression.specs.declared.Read.{Read}
-use Rattle.expression.specs.declared.Read.TheVariants.{Command as Got, Fault}
-use Rattle.expression.specs.Commands.{read_at}
+use Rattle.expression.specs.Commands.{Read, Got, Fault, read_at}
 use Rattle.expression.specs.Effects.{effect, depth_by}
 use Rattle.expression.specs.Reading.{no_counts, counted, count_fault, Placed}
 use Rattle.expression.specs.Places.{locate_from, locate}
@@ -50,17 +48,17 @@ module _ (K : ℕ) (s : List ℕ) (z : Counts) where
         let there : N.next ≡ next = cc (N.read, e) in
         (N.rest, subst (λ (x : Command). Remains K s next (counted n x) N.rest z) same (subst (λ (i : ℕ). Remains K s i (counted n N.command) N.rest z) there N.after))
 
-  go : (asked k at : ℕ) (m n : Counts) → Here at m → locate_from K k s asked at m ≡ Before n → Here asked n
+  go : (asked k at : ℕ) (m n : Counts) → Here at m → locate_from K k s asked at m ≡ Some n → Here asked n
   unfolding locate_from
   go asked zero at m n h e = let q : ◌≡◌ {A = ℕ} 0 1 = cc e in absurd (omega arith)
   go asked (suc k) at m n h e = by (λ next c l. go asked k next (counted m c) n l) (eqb at asked) refl (read_at K s at) refl
     where
-      by : ((next : ℕ) (c : Command) → Here next (counted m c) → locate_from K k s asked next (counted m c) ≡ Before n → Here asked n)
+      by : ((next : ℕ) (c : Command) → Here next (counted m c) → locate_from K k s asked next (counted m c) ≡ Some n → Here asked n)
           → (b : Bool) → eqb at asked ≡ b → (x : Read) → read_at K s at ≡ x → Here asked n
-      by on true t x f = let v : Before m ≡ Before n = rw (t, locate_from) at e in let j : m ≡ n = cc v in subst (λ (i : ℕ). Here i n) (eqb-true at asked t) (subst (Here at) j h)
-      by on false t (Fault v) f = let g : Nowhere ≡ Before n = rw (t, f, locate_from) at e in let q : ◌≡◌ {A = ℕ} 0 1 = cc g in absurd (omega arith)
+      by on true t x f = let v : Some m ≡ Some n = rw (t, locate_from) at e in let j : m ≡ n = cc v in subst (λ (i : ℕ). Here i n) (eqb-true at asked t) (subst (Here at) j h)
+      by on false t (Fault v) f = let g : None ≡ Some n = rw (t, f, locate_from) at e in let q : ◌≡◌ {A = ℕ} 0 1 = cc g in absurd (omega arith)
       by on false t (Got c next) f = on next c (here-next h f) (rw (t, f, locate_from) at e)
 
-  pub located_here : (asked : ℕ) (n : Counts) → Joined K s z → locate K s asked ≡ Before n → Here asked n
+  pub located_here : (asked : ℕ) (n : Counts) → Joined K s z → locate K s asked ≡ Some n → Here asked n
   unfolding locate
   located_here asked n j e = go asked (suc (length s)) 0 no_counts n (j.placed, remains-start K s z j) e

@@ -1,17 +1,17 @@
 // Whether a running record has the form asked for (01: 18), and what stands before its place.
 #![tactic(auto)]
 
-ghost use Rattle.std.specs.Prelude.{◌≡◌, ◌&&◌, ℕ, ◌+◌, ◌*◌, ◌≤◌, length, take, drop};
+ghost use Rattle.std.specs.Prelude.{◌≡◌, ◌&&◌, ◌*◌, ◌≤◌, length, take, drop, ℕ};
 ghost use Rattle.labels.specs.Labels.{label_count};
 ghost use Rattle.expression.specs.declared.Counts.{Counts};
 ghost use Rattle.expression.specs.Limits.{areas_for, area_count};
-ghost use Rattle.expression.specs.declared.Checked.TheVariants.{Passed};
-ghost use Rattle.expression.specs.Checks.{check, depth_of};
+ghost use Rattle.expression.specs.Checks.{Passed, check, depth_of};
 ghost use Rattle.forms.specs.Forms.{are_zero, are_tables};
 ghost use Rattle.checks.specs.Requests.{request};
 ghost use Rattle.records.specs.Steps.{formed_at};
 
-use expression::Located;
+use checks::checking::Terms;
+use expression::Counts;
 use places::locate;
 use records::Record;
 
@@ -27,27 +27,24 @@ fn are_found(ws: &[u32], counts: &[u64], t: usize, d: usize, w: usize, p: usize)
     table_forms::are_tables(&ws[..need], &counts[..t], w, p)
 }
 
-// The counts before the record's place, unless 18 refuses. So many areas hold all the words needed.
-pub fn formed_at(state: Record, ws: &[u32], s: &[u8], areas: usize, p: u64, g: u64) -> Located
-    requires { (i : ℕ) × (o : ℕ) × (z : Counts) × (check label_count (request s.now p g (length ws.now) i o) ≡ Passed z) × (areas ≡ areas_for (depth_of label_count s.now)) }
-    ensures { (i o : ℕ) → result ≡ formed_at label_count (request s.now p g (length ws.now) i o) state ws.now }
+// The counts before the record's place, unless 18 refuses, whatever the pins. So many areas hold all the words needed.
+pub fn formed_at(state: Record, ws: &[u32], s: &[u8], areas: usize, terms: Terms) -> Option<Counts>
+    requires { (i : ℕ) × (o : ℕ) × (z : Counts) × (check label_count (request s.now terms.pair_limit terms.subset_limit (length ws.now) i o) ≡ Passed z) × (areas ≡ areas_for (depth_of label_count s.now)) }
+    ensures { (i o : ℕ) → result ≡ formed_at label_count (request s.now terms.pair_limit terms.subset_limit (length ws.now) i o) state ws.now }
 {
-    let r = locate(s, state.place);
-    let Located::Before(n) = r else {
-        return Located::Nowhere;
-    };
+    let n = locate(s, state.place)?;
     if state.tables as u64 != n.depth {
-        return Located::Nowhere;
+        return None;
     }
     if !are_found(
         ws,
         &state.counts,
         state.tables,
         areas,
-        g as usize + 2,
-        p as usize,
+        terms.subset_limit as usize + 2,
+        terms.pair_limit as usize,
     ) {
-        return Located::Nowhere;
+        return None;
     }
-    r
+    Some(n)
 }

@@ -9,8 +9,8 @@ use lib.Dec.{ltb}
 use lib.ListN.{length, drop, get_or}
 use lib.Seq.{take_at, drop_at}
 use borrow.Author.Tests.{lt-ltb, le-leb}
-use Rattle.lists.specs.declared.Order.{Order}
-use Rattle.lists.specs.declared.Order.TheVariants.{Less}
+use Rattle.std.specs.declared.cmp.Ordering.{Ordering}
+use Rattle.std.specs.declared.cmp.Ordering.TheVariants.{Less}
 use Rattle.lists.specs.Lists.{every, All}
 use Rattle.lists.specs.Sorted.{compare_numbers, compare_lists, Rising}
 use Rattle.tables.specs.Definitions.{Pair, subsets}
@@ -35,7 +35,7 @@ zeros-zero (suc n) = zeros-zero n
 
 -- ---- strictly rising lists
 
-module _ {A : Type 0} (cmp : A → A → Order) where
+module _ {A : Type 0} (cmp : A → A → Ordering) where
   rises : (x : A) (xs : List A) → All (λ y. cmp x y ≡ Less) xs → Rising cmp xs → rises_from cmp x xs ≡ true
   unfolding rises_from Rising
   rises x [] h r = refl

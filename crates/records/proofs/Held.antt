@@ -1,4 +1,5 @@
 -- A record and words that hold a stack of tables of the form asked for: they pass 18, and what a step and the verdict make of them. Assumes nothing.
+use Rattle.std.specs.Prelude.{Some}
 use mathlib.Core.Path.{◌≡◌, sym, ap, ap₂, ◌∙◌}
 use mathlib.Core.Bool.{true, cond}
 use mathlib.Core.List.{List, [], ◌∷◌, ◌++◌, append_assoc, append-nil}
@@ -10,14 +11,11 @@ use borrow.Author.Tests.{eq-eqb, ne_eqb}
 use Rattle.lists.specs.Lists.{All}
 use Rattle.expression.specs.declared.Command.{Command}
 use Rattle.expression.specs.declared.Counts.{Counts}
-use Rattle.expression.specs.declared.Checked.TheVariants.{Passed}
-use Rattle.expression.specs.declared.Located.TheVariants.{Before}
 use Rattle.expression.specs.declared.Outcome.TheVariants as outcome
-use Rattle.expression.specs.declared.Read.TheVariants.{Command as Got}
 use Rattle.expression.specs.Limits.{depth_limit, row_words, areas_for}
 use Rattle.expression.specs.Refusals.{bad_record}
-use Rattle.expression.specs.Commands.{read_at}
-use Rattle.expression.specs.Checks.{Request, check, depth_of, need_of}
+use Rattle.expression.specs.Commands.{Got, read_at}
+use Rattle.expression.specs.Checks.{Passed, Request, check, depth_of, need_of}
 use Rattle.expression.specs.Places.{locate}
 use Rattle.expression.proofs.Commands.{past_end}
 use Rattle.semantics.specs.Expressions.{act}
@@ -29,8 +27,7 @@ use Rattle.workspace.specs.Workspace.{stack_words, workspace_of, stack_counts, c
 use Rattle.workspace.proofs.Areas.{workspace-long}
 use Rattle.stacks.proofs.Counts.{counts-long}
 use Rattle.forms.specs.Forms.{are_tables, tables_in}
-use Rattle.records.specs.declared.Progress.TheVariants.{Ended, Refused}
-use Rattle.records.specs.Steps.{Step, found, is_formed, formed_at, moves, move_to, command, step, conclusion, verdict}
+use Rattle.records.specs.Steps.{Ended, Refused, Step, found, is_formed, formed_at, moves, move_to, command, step, conclusion, verdict}
 use Rattle.records.specs.Walks.{still}
 use Rattle.records.proofs.Formed.{Formed, zeros-zero, stack-formed, stack-found}
 
@@ -105,14 +102,14 @@ module _ (K : ℕ) (a : Request) (us : List (List Pair)) (formed : All (Formed K
   unfolding moves
   held-again next vs = rw (areas-dropped K w p areas us formed (omega arith) (drop need ws))
 
-  module _ (z : Counts) (passed : check K a ≡ Passed z) (n : Counts) (here : locate K a.bytes at ≡ Before n) (counted : length us ≡ n.depth) where
+  module _ (z : Counts) (passed : check K a ≡ Passed z) (n : Counts) (here : locate K a.bytes at ≡ Some n) (counted : length us ≡ n.depth) where
     is-formed : is_formed K a n held.state held.words ≡ true
     unfolding is_formed moves
     is-formed =
         rw (eq-eqb (length us) n.depth counted, counts-dropped depth_limit us, zeros-zero (depth_limit - length us), counts-taken depth_limit us, areas-taken K w p areas us formed (omega arith) (drop need ws))
         (areas-formed K w p areas us formed (omega arith))
 
-    formed-here : formed_at K a held.state held.words ≡ Before n
+    formed-here : formed_at K a held.state held.words ≡ Some n
     unfolding formed_at moves
     formed-here = rw (here, is-formed, formed_at)
 

@@ -1,4 +1,5 @@
 -- A walk by calls under way: where it is, which tables stand there, and its next call, beside the decision's own walk. Assumes nothing.
+use Rattle.std.specs.Prelude.{Some}
 use mathlib.Core.Path.{◌≡◌, refl, sym, ap, ap₂, ◌∙◌}
 use mathlib.Core.Bool.{Bool, true, false, cond}
 use mathlib.Core.List.{List, [], ◌∷◌, map}
@@ -11,13 +12,11 @@ use borrow.Author.Tests.{ltb-true, ltb-false}
 use Rattle.lists.specs.Lists.{All}
 use Rattle.lists.proofs.Members.{map-drop}
 use Rattle.expression.specs.declared.Counts.{Counts}
-use Rattle.expression.specs.declared.Checked.TheVariants.{Passed}
-use Rattle.expression.specs.declared.Located.TheVariants.{Before}
 use Rattle.expression.specs.declared.Outcome.TheVariants as outcome
 use Rattle.expression.specs.Refusals.{bad_record}
 use Rattle.expression.specs.Reading.{no_counts, new_atoms, depth_after, counted, Placed}
 use Rattle.expression.specs.Limits.{row_words, areas_for}
-use Rattle.expression.specs.Checks.{Request, check, depth_of, need_of}
+use Rattle.expression.specs.Checks.{Passed, Request, check, depth_of, need_of}
 use Rattle.expression.specs.Places.{locate}
 use Rattle.expression.proofs.Commands.{read-ends}
 use Rattle.expression.proofs.Totals.{capped-limited, passes-operands}
@@ -33,9 +32,7 @@ use Rattle.decisions.specs.Decisions.{assumed, commands_in, pairs_fault, newest,
 use Rattle.stacks.proofs.Clearing.{workspace-none}
 use Rattle.advances.proofs.Steps.{walk-nil, walk-on, walk-stops}
 use Rattle.records.specs.declared.Record.{Record}
-use Rattle.records.specs.declared.Progress.{Progress}
-use Rattle.records.specs.declared.Progress.TheVariants.{Ended, Refused}
-use Rattle.records.specs.Steps.{Step, stays, start_record, moves, step, start}
+use Rattle.records.specs.Steps.{Answer, Ended, Refused, Step, stays, start_record, moves, step, start}
 use Rattle.records.specs.Walks.{still, commands, place_of, tables_after, stepped, verdict_on, walking}
 use Rattle.records.proofs.Formed.{Formed}
 use Rattle.records.proofs.Preserved.{Consistent, masks-consistent, act-formed}
@@ -93,7 +90,7 @@ module _ (K : ℕ) (a : Request) where
   calls-after (suc n) (suc m) k x e = ap (λ (y : Step). step K a y.state y.words) (calls-after n m k x (omega arith))
 
   -- a call that changes nothing, again and again
-  pub calls-stay : (x : Step) (answer : Progress) → step K a x.state x.words ≡ still answer x → (n : ℕ) → stepped K a (suc n) x ≡ still answer x
+  pub calls-stay : (x : Step) (answer : Answer) → step K a x.state x.words ≡ still answer x → (n : ℕ) → stepped K a (suc n) x ≡ still answer x
   unfolding stepped stays
   calls-stay x answer e zero = e
   calls-stay x answer e (suc n) = ap (λ (y : Step). step K a y.state y.words) (calls-stay x answer e n) ∙ e
@@ -142,7 +139,7 @@ module _ (K : ℕ) (a : Request) where
       limited : length us ≤ depth_of K s
       limited = omega (arith, h.deep, h.remains.1.within, remains-deepest K s h.at h.counts h.rest z h.remains, accepted.deepest)
 
-      here : locate K s h.at ≡ Before h.counts
+      here : locate K s h.at ≡ Some h.counts
       here = sym (ahead-here K s h.at h.at h.counts refl (h.ahead h.at (omega arith)))
 
       abbrev pub held : Step

@@ -10,21 +10,19 @@ use lib.ListN.{length, take}
 use lib.Seq.{take_all}
 use Rattle.lists.specs.Lists.{All}
 use Rattle.expression.specs.declared.Counts.{Counts}
-use Rattle.expression.specs.declared.Checked.TheVariants.{Passed}
 use Rattle.expression.specs.declared.Outcome.TheVariants as outcome
 use Rattle.expression.specs.Refusals.{bad_record}
 use Rattle.expression.specs.Commands.{Suits}
 use Rattle.expression.specs.Reading.{Placed}
-use Rattle.expression.specs.Checks.{Request, check}
+use Rattle.expression.specs.Checks.{Passed, Request, check}
 use Rattle.semantics.proofs.Readings.{commands_of}
 use Rattle.tables.specs.Definitions.{Pair, pairs, grounded_accepts}
 use Rattle.tables.proofs.Exactness.{exact-all}
-use Rattle.decisions.specs.Decisions.{refused, assumed, commands_in, newest, Walked, stopped, walked, walk, answer, conclude, decide, grounded}
+use Rattle.decisions.specs.Decisions.{refused, assumed, newest, Walked, stopped, walked, walk, answer, conclude, decide, grounded}
 use Rattle.decisions.specs.Outcomes.{without_mask}
 use Rattle.decisions.proofs.Walks.{tables-after, walk-all, commands-suit}
 use Rattle.records.specs.declared.Record.{Record}
-use Rattle.records.specs.declared.Progress.TheVariants.{Ended, Refused}
-use Rattle.records.specs.Steps.{Step, stays, moves, step, start}
+use Rattle.records.specs.Steps.{Ended, Refused, Step, stays, moves, step, start}
 use Rattle.records.specs.Walks.{last_answer, still, commands, place_of, tables_after, stepped, verdict_on, walking, Walks}
 use Rattle.records.proofs.Walking.{stops-more, calls-after, calls-stay, B, fault, Reached, reached-start, so_far, last-call, last-verdict, early-verdict, at_place, vs, reached-next, next-stops, next-refuses}
 

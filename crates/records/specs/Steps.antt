@@ -1,16 +1,12 @@
 -- One command a call (01): what starting, a step and the verdict make of a running record and its workspace, over K labels. Assumes nothing.
-use Rattle.std.specs.Prelude.{Bool, true, false, cond, ◌&&◌, List, [], ℕ, zero, suc, ◌+◌, eqb, length, take, drop}
-use Rattle.expression.specs.declared.Command.{Command}
+use Rattle.std.specs.Prelude.{Bool, cond, ◌&&◌, List, [], ℕ, zero, suc, ◌+◌, eqb, length, take, drop, Option, Some, None}
 use Rattle.expression.specs.declared.Counts.{Counts}
-use Rattle.expression.specs.declared.Checked.TheVariants as checked
-use Rattle.expression.specs.declared.Located.{Located}
-use Rattle.expression.specs.declared.Located.TheVariants.{Before, Nowhere}
+use Rattle.expression.specs.Checks as checked
 use Rattle.expression.specs.declared.Outcome.{Outcome}
 use Rattle.expression.specs.declared.Outcome.TheVariants as outcome
-use Rattle.expression.specs.declared.Read.TheVariants.{Command as Got, Fault}
 use Rattle.expression.specs.Limits.{depth_limit, row_words, areas_for}
 use Rattle.expression.specs.Refusals.{bad_record}
-use Rattle.expression.specs.Commands.{read_at}
+use Rattle.expression.specs.Commands.{Got, Fault, read_at}
 use Rattle.expression.specs.Checks.{Request, check, depth_of, need_of}
 use Rattle.expression.specs.Places.{locate}
 use Rattle.semantics.specs.Expressions.{act}
@@ -21,17 +17,21 @@ use Rattle.workspace.specs.Workspace.{workspace_of, counts_of}
 use Rattle.stacks.specs.Stacks.{cleared}
 use Rattle.forms.specs.Forms.{are_zero, are_tables, tables_in}
 use Rattle.records.specs.declared.Record.{Record}
-use Rattle.records.specs.declared.Progress.{Progress}
-use Rattle.records.specs.declared.Progress.TheVariants.{Moved, Ended, Refused}
+
+-- what a call answers: it did a command, the end was reached before, or a refusal with its number and place
+pub data Answer : Type 0 where
+  Moved : Answer
+  Ended : Answer
+  Refused : ℕ → ℕ → Answer
 
 -- what a call leaves in record and workspace, and answers
 pub record Step : Type 0 where
   pub state : Record
-  pub answer : Progress
+  pub answer : Answer
   pub words : List ℕ
 
 -- nothing changes
-unfoldable pub stays : Progress → Record → List ℕ → Step
+unfoldable pub stays : Answer → Record → List ℕ → Step
 stays x r ws = record { state = r; answer = x; words = ws }
 
 -- place 0, no tables
@@ -58,8 +58,8 @@ module _ (K : ℕ) (a : Request) where
       && are_tables K (row_words a.subset_limit) a.pair_limit (counts_in r) (take need ws))
 
   -- the counts before the record's place, unless 18 refuses
-  unfoldable pub formed_at : Record → List ℕ → Located
-  formed_at r ws = elim (locate K a.bytes r.place) [ Nowhere ↦ Nowhere | Before n ↦ cond (is_formed n r ws) (Before n) Nowhere ]
+  unfoldable pub formed_at : Record → List ℕ → Option Counts
+  formed_at r ws = elim (locate K a.bytes r.place) [ None ↦ None | Some n ↦ cond (is_formed n r ws) (Some n) None ]
 
   -- the tables us after a command, the next of which is at `next`
   unfoldable pub moves : ℕ → List (List Pair) → List ℕ → Step
@@ -87,7 +87,7 @@ module _ (K : ℕ) (a : Request) where
   step r ws =
       elim (check K a) [
         | checked.Refused n at ↦ stays (Refused n at) r ws
-        | checked.Passed z ↦ elim (formed_at r ws) [ Nowhere ↦ stays (Refused bad_record r.place) r ws | Before n ↦ command n r ws ]
+        | checked.Passed z ↦ elim (formed_at r ws) [ None ↦ stays (Refused bad_record r.place) r ws | Some n ↦ command n r ws ]
       ]
 
   -- 1 to 13, then a record without tables beside needed words that are zero
@@ -107,5 +107,5 @@ module _ (K : ℕ) (a : Request) where
   verdict r ws =
       elim (check K a) [
         | checked.Refused n at ↦ outcome.Refused n at
-        | checked.Passed z ↦ elim (formed_at r ws) [ Nowhere ↦ outcome.Refused bad_record r.place | Before n ↦ conclusion r ws ]
+        | checked.Passed z ↦ elim (formed_at r ws) [ None ↦ outcome.Refused bad_record r.place | Some n ↦ conclusion r ws ]
       ]

@@ -13,18 +13,16 @@ use Rattle.tables.specs.Exactness.{ExactTables}
 use Rattle.decisions.specs.Decisions.{Verdict, affirmed, denied, refused, assumed, commands_in, pairs_fault, Walked, stopped, walked, walk, grounded}
 use Rattle.decisions.specs.Outcomes.{without_mask}
 use Rattle.records.specs.declared.Record.{Record}
-use Rattle.records.specs.declared.Progress.{Progress}
-use Rattle.records.specs.declared.Progress.TheVariants.{Ended, Refused}
-use Rattle.records.specs.Steps.{Step, stays, moves, step, start, verdict}
+use Rattle.records.specs.Steps.{Answer, Ended, Refused, Step, stays, moves, step, start, verdict}
 
 -- what calls answer in the end: the decision's refusal, or that there is no command left
-abbrev pub last_answer : Verdict → Progress
+abbrev pub last_answer : Verdict → Answer
 last_answer affirmed = Ended
 last_answer denied = Ended
 last_answer (refused f at) = Refused f at
 
 -- the same record and words
-abbrev pub still : Progress → Step → Step
+abbrev pub still : Answer → Step → Step
 still answer x = stays answer x.state x.words
 
 module _ (K : ℕ) (a : Request) where

@@ -2,25 +2,26 @@
 // The place of the next command, how many tables there are, and how many pairs each has, the oldest first.
 #![tactic(auto)]
 
+use expression::refusals::Refusal;
+
 #[repr(C)]
-#[derive(Clone, Copy)]
+#[derive(Clone, Copy, PartialEq, Eq)]
 pub struct Record {
     pub place: usize,
     pub tables: usize,
     pub counts: [u64; 8],
 }
 
-// A command was done; the end was reached before; or a refusal with its number and place.
-#[derive(Clone, Copy)]
+// What a call did that is not refused: a command, or nothing, where the end was reached before.
+#[derive(Clone, Copy, PartialEq, Eq)]
 pub enum Progress {
     Moved,
     Ended,
-    Refused(u64, usize),
 }
 
-// The record after a call, and what is answered.
+// The record after a call, be it refused or not, and what is answered.
 #[derive(Clone, Copy)]
 pub struct Stepped {
     pub state: Record,
-    pub progress: Progress,
+    pub progress: Result<Progress, Refusal>,
 }

@@ -1,4 +1,5 @@
 -- After a grounded decision that was not refused, the report after the last command is of the final table, and an area's words have room for it. Assumes nothing.
+use Rattle.std.specs.Prelude.{Option, Some, None}
 use mathlib.Core.Path.{◌≡◌, refl, sym, ap, ◌∙◌, subst}
 use mathlib.Core.Bool.{Bool, true, false, cond, true≢false}
 use mathlib.Core.List.{List, [], ◌∷◌}
@@ -12,25 +13,19 @@ use borrow.Author.Tests.{eqb-true, ltb-false}
 use Rattle.lists.specs.Lists.{some}
 use Rattle.lists.proofs.Members.{and_both, or-neither}
 use Rattle.expression.specs.declared.Command.{Command}
-use Rattle.expression.specs.declared.Read.{Read}
-use Rattle.expression.specs.declared.Read.TheVariants.{Command as Got, Fault}
 use Rattle.expression.specs.declared.Counts.{Counts}
-use Rattle.expression.specs.declared.Checked.{Checked}
-use Rattle.expression.specs.declared.Checked.TheVariants.{Passed, Refused}
-use Rattle.expression.specs.declared.Located.{Located}
-use Rattle.expression.specs.declared.Located.TheVariants.{Before, Nowhere}
 use Rattle.expression.specs.Limits.{area_words}
 use Rattle.expression.specs.Refusals.{subsets_full, plans_full}
-use Rattle.expression.specs.Commands.{read_at}
+use Rattle.expression.specs.Commands.{Read, Got, Fault, read_at}
 use Rattle.expression.specs.Reading.{new_atoms, Placed, no_counts, counted, reading}
 use Rattle.expression.specs.Places.{locate_from, locate}
-use Rattle.expression.specs.Checks.{Request, check}
+use Rattle.expression.specs.Checks.{Checked, Passed, Refused, Request, check}
 use Rattle.expression.proofs.Commands.{read-ends}
 use Rattle.expression.proofs.Checks.{Joined}
 use Rattle.expression.proofs.Accepted.{check-accepted}
 use Rattle.expression.proofs.Remaining.{Remains, Next, remains-start, remains-next, remains-end}
 use Rattle.semantics.specs.Expressions.{Operations, act}
-use Rattle.tables.specs.Algebras.{Algebra, tables, table}
+use Rattle.tables.specs.Algebras.{Algebra, tables}
 use Rattle.tables.specs.Definitions.{Pair, subsets, pairs, grounded_accepts}
 use Rattle.decisions.specs.Decisions.{Verdict, refused, assumed, commands_in, newest, Walked, stopped, walked, walk, conclude, decide, grounded, pairs_fault}
 use Rattle.decisions.proofs.Walks.{Settled, check-readable, walked_one}
@@ -52,34 +47,34 @@ pub record LastAt (K : ℕ) (s : List ℕ) (at : ℕ) : Type 0 where
 
 module _ (K : ℕ) (s : List ℕ) (at : ℕ) where
   -- a walk only comes to offsets ahead
-  located-ahead : (k from : ℕ) (n m : Counts) → locate_from K k s at from n ≡ Before m → from ≤ at
+  located-ahead : (k from : ℕ) (n m : Counts) → locate_from K k s at from n ≡ Some m → from ≤ at
   unfolding locate_from
   located-ahead zero from n m h = let x : ◌≡◌ {A = ℕ} 0 1 = cc in absurd (omega arith)
   located-ahead (suc k) from n m h = step (eqb from at) refl (read_at K s from) refl (λ c next g. located-ahead k next (counted n c) m g) h
     where
-      step : (b : Bool) → eqb from at ≡ b → (r : Read) → read_at K s from ≡ r → ((c : Command) (next : ℕ) → locate_from K k s at next (counted n c) ≡ Before m → next ≤ at)
-          → elim b as (λ x. Located) [ true ↦ Before n | false ↦ elim r [ Fault f ↦ Nowhere | Got c next ↦ locate_from K k s at next (counted n c) ] ] ≡ Before m → from ≤ at
+      step : (b : Bool) → eqb from at ≡ b → (r : Read) → read_at K s from ≡ r → ((c : Command) (next : ℕ) → locate_from K k s at next (counted n c) ≡ Some m → next ≤ at)
+          → elim b as (λ x. Option Counts) [ true ↦ Some n | false ↦ elim r [ Fault f ↦ None | Got c next ↦ locate_from K k s at next (counted n c) ] ] ≡ Some m → from ≤ at
       step true e r q g h = omega (arith, eqb-true from at e)
       step false e (Fault f) q g h = let x : ◌≡◌ {A = ℕ} 0 1 = cc in absurd (omega arith)
       step false e (Got c next) q g h = omega (arith, g c next h, (read-ends K s from c next q).0)
 
-  located : starts_at K s at ≡ true → (m : Counts) × (locate K s at ≡ Before m)
+  located : starts_at K s at ≡ true → (m : Counts) × (locate K s at ≡ Some m)
   unfolding starts_at
   located h = step (locate K s at) refl (and_both (ltb at (length s)) (is_before (locate K s at)) h).1
     where
-      step : (x : Located) → locate K s at ≡ x → is_before x ≡ true → (m : Counts) × (locate K s at ≡ Before m)
-      step (Before m) e g = (m, e)
-      step Nowhere e g = absurd (true≢false (sym g))
+      step : (x : Option Counts) → locate K s at ≡ x → is_before x ≡ true → (m : Counts) × (locate K s at ≡ Some m)
+      step (Some m) e g = (m, e)
+      step None e g = absurd (true≢false (sym g))
 
   -- no command starts behind the last
   module _ (l : LastAt K s at) (z : Counts) where
-    all_from : (k from : ℕ) (n m : Counts) (cs : List Placed) → Remains K s from n cs z → locate_from K k s at from n ≡ Before m → before (at + 1) cs ≡ cs
+    all_from : (k from : ℕ) (n m : Counts) (cs : List Placed) → Remains K s from n cs z → locate_from K k s at from n ≡ Some m → before (at + 1) cs ≡ cs
     unfolding locate_from
     all_from zero from n m cs r h = let x : ◌≡◌ {A = ℕ} 0 1 = cc in absurd (omega arith)
     all_from (suc k) from n m cs r h = step (dec_le (suc from) (length s)) (λ next n' cs' r' h'. all_from k next n' m cs' r' h')
       where
         Rest : Type 0
-        Rest = (next : ℕ) (n' : Counts) (cs' : List Placed) → Remains K s next n' cs' z → locate_from K k s at next n' ≡ Before m → before (at + 1) cs' ≡ cs'
+        Rest = (next : ℕ) (n' : Counts) (cs' : List Placed) → Remains K s next n' cs' z → locate_from K k s at next n' ≡ Some m → before (at + 1) cs' ≡ cs'
 
         behind : (N : Next K s from n cs z) → Rest → (b : Bool) → eqb from at ≡ b → before (at + 1) N.rest ≡ N.rest
         behind N f true e =

@@ -9,13 +9,11 @@ use lib.ListN.{length}
 use Rattle.lists.specs.Lists.{All}
 use Rattle.expression.specs.declared.Command.{Command}
 use Rattle.expression.specs.declared.Counts.{Counts}
-use Rattle.expression.specs.declared.Checked.{Checked}
-use Rattle.expression.specs.declared.Checked.TheVariants.{Passed, Refused as Stopped}
 use Rattle.expression.specs.Commands.{Suits}
 use Rattle.expression.specs.Refusals.{offset}
 use Rattle.expression.specs.Effects.{effect}
 use Rattle.expression.specs.Reading.{new_atoms, Placed, no_counts, count_fault, reading}
-use Rattle.expression.specs.Checks.{Request, check}
+use Rattle.expression.specs.Checks.{Checked, Passed, Refused as Stopped, Request, check}
 use Rattle.expression.proofs.Totals.{passes-operands, one_left}
 use Rattle.expression.proofs.Checks.{Joined}
 use Rattle.expression.proofs.Accepted.{check-accepted}

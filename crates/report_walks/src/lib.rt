@@ -11,14 +11,17 @@ ghost use Rattle.workspace.specs.Workspace.{pairs_of};
 ghost use Rattle.walks.specs.Walks.{Enough, walk_to};
 ghost use Rattle.reports.specs.Reports.{report_of};
 ghost use Rattle.stacks.specs.Stacks.{cleared};
+ghost use Rattle.reporting.specs.Report.{reported_of};
 ghost use Rattle.reporting.specs.Reporting.{newest_in, report_answer, report_buffer};
 
+use checks::frames::Frame;
 use entries::Carry;
+use expression::Pins;
+use expression::refusals::Refusal;
 use leaves::Tables;
-use reporting::{Report, report_newest};
-use walks::Reached;
+use reporting::{Written, report_newest};
 
-// The commands up to the one at the offset asked, and the report of the table after it; the first `need` words cleared before and after.
+// The commands up to the one at the offset asked, and the report of the table after it; the words needed cleared before and after.
 pub fn tabulate(
     s: &[u8],
     asked: usize,
@@ -29,22 +32,20 @@ pub fn tabulate(
     vals: &mut [u64],
     counts: &mut [u64],
     kind: Tables,
-    d: usize,
-    w: usize,
-    p: usize,
-    need: usize,
-    assumed_true: u64,
-    assumed_false: u64,
-) -> Report
-    requires wide { Wide kind w × (w ≤ 4096) × (1 ≤ p) × (p ≤ 1024) × (length row.old ≡ w) × (p ≤ length index.old) }
+    frame: Frame,
+    pins: Pins,
+) -> Result<Written, Refusal>
+    requires wide { Wide kind frame.width × (frame.width ≤ 4096) × (1 ≤ frame.limit) × (frame.limit ≤ 1024) × (length row.old ≡ frame.width) × (frame.limit ≤ length index.old) }
     requires counts_value { (counts.old ≡ zeros depth_limit) × (asked < length s.now) }
-    requires enough { Enough d s.now × (need ≤ length ws.old) × (d * (p * w) ≤ need) × (d ≤ area_count) }
-    ensures value { result ≡ report_answer (λ x. report_of kind (pairs_of x)) (length out.old) asked (newest_in (walk_to kind Nothing (by_masks assumed_true assumed_false) w p (asked + 1) s.now)) }
-    ensures out_after { out.new ≡ report_buffer (λ x. report_of kind (pairs_of x)) out.old (newest_in (walk_to kind Nothing (by_masks assumed_true assumed_false) w p (asked + 1) s.now)) }
-    ensures ws_after { ws.new ≡ cleared need ws.old }
+    requires enough { Enough frame.areas s.now × (frame.need ≤ length ws.old) × (frame.areas * (frame.limit * frame.width) ≤ frame.need) × (frame.areas ≤ area_count) }
+    ensures value { reported_of result ≡ report_answer (λ x. report_of kind (pairs_of x)) (length out.old) asked (newest_in (walk_to kind Nothing (by_masks pins.assumed_true pins.assumed_false) frame.width frame.limit (asked + 1) s.now)) }
+    ensures out_after { out.new ≡ report_buffer (λ x. report_of kind (pairs_of x)) out.old (newest_in (walk_to kind Nothing (by_masks pins.assumed_true pins.assumed_false) frame.width frame.limit (asked + 1) s.now)) }
+    ensures ws_after { ws.new ≡ cleared frame.need ws.old }
 {
-    stacks::clear_need(ws, need);
-    let r = walks::walk(
+    let w = frame.width;
+    let p = frame.limit;
+    stacks::clear_need(ws, frame.need);
+    let walked = walks::walk(
         s,
         asked + 1,
         ws,
@@ -54,18 +55,17 @@ pub fn tabulate(
         counts,
         kind,
         Carry::Nothing,
-        d,
+        frame.areas,
         w,
         p,
-        assumed_true,
-        assumed_false,
+        pins,
     );
-    match r {
-        Reached::Stopped(f, at, t) => {
-            stacks::clear_tables(ws, counts, w, p, t);
-            Report::Refused(f, at)
+    match walked {
+        Err(e) => {
+            stacks::clear_tables(ws, counts, w, p, e.tables);
+            Err(e.refusal)
         }
-        Reached::Through(t) => {
+        Ok(t) => {
             let report = report_newest(ws, out, counts, kind, w, p, t, asked);
             stacks::clear_tables(ws, counts, w, p, t);
             report

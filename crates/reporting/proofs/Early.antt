@@ -2,9 +2,7 @@
 use mathlib.Core.Path.{◌≡◌, refl}
 use mathlib.Core.List.{List}
 use Prim.Native.Nat.{ℕ}
-use Rattle.expression.specs.declared.Checked.{Checked}
-use Rattle.expression.specs.declared.Checked.TheVariants.{Passed, Refused}
-use Rattle.expression.specs.Checks.{Request, check}
+use Rattle.expression.specs.Checks.{Checked, Passed, Refused, Request, check}
 use Rattle.reporting.specs.Reporting.{starts_at, words_reported}
 
 pub zeroed-alike : (K : ℕ) (a : Request) (at at' : ℕ) (ws : List ℕ) → starts_at K a.bytes at ≡ starts_at K a.bytes at' → words_reported K a at ws ≡ words_reported K a at' ws

@@ -1,5 +1,5 @@
 -- The newest table of a workspace, written or not. Assumes nothing.
-use mathlib.Core.Path.{◌≡◌, refl}
+use mathlib.Core.Path.{◌≡◌, refl, ap, ◌∙◌}
 use mathlib.Core.List.{List, ◌++◌}
 use Prim.Native.Nat.{ℕ, ◌+◌, ◌-◌, ◌*◌, ◌≤◌, ◌<◌}
 use native.Mathlib.Omega.{arith}
@@ -7,6 +7,7 @@ use lib.ListN.{length, drop}
 use borrow.Author.Tests.{lt-ltb, le-ltb}
 use Rattle.expression.specs.Refusals.{report_short}
 use Rattle.decisions.specs.Decisions.{newest}
+use Rattle.tables.specs.Definitions.{Pair}
 use Rattle.rows.specs.Parts.{part}
 use Rattle.rows.specs.Rows.{Rows, rows_in}
 use Rattle.entries.specs.declared.Carry.TheVariants.{Nothing}
@@ -17,7 +18,9 @@ use Rattle.operands.specs.Operands.{Loaded}
 use Rattle.operands.proofs.Loads.{Stands as Operand, below, inside, newer-stands, stands-rows, stands-pairs}
 use Rattle.advances.specs.Advances.{Stands}
 use Rattle.advances.proofs.Advancing.{loaded}
-use Rattle.reporting.specs.declared.Report.TheVariants.{Written, Refused}
+use Rattle.leaves.specs.declared.Tables.{Tables}
+use Rattle.reports.specs.Reports.{report_of}
+use Rattle.reporting.specs.Report.{Written, Refused}
 use Rattle.reporting.specs.Reporting.{table_at, report_answer, report_buffer}
 
 module _ {d w p : ℕ} {us : List (List Entry)} {beyond ws vals counts : List ℕ} (h : Stands Nothing d w p us beyond ws vals counts) (t : ℕ) (e : length us ≡ t) (n : ℕ) (en : n ≡ count_below t 1 counts) where
@@ -39,6 +42,10 @@ module _ {d w p : ℕ} {us : List (List Entry)} {beyond ws vals counts : List �
 
     pub newest-pairs : rows_in w n (part ((t - 1) * (p * w)) (p * w) ws) ≡ pairs_of (newest us)
     newest-pairs = stands-pairs S ((t - 1) * (p * w)) n refl many
+
+    -- what its rows take is what its report takes
+    pub newest-words : (kind : Tables) (words : ℕ) → words ≡ length (report_of kind (rows_in w n (part ((t - 1) * (p * w)) (p * w) ws))) → words ≡ length (report_of kind (pairs_of (newest us)))
+    newest-words kind words e = e ∙ ap (λ (x : List Pair). length (report_of kind x)) newest-pairs
 
 -- what is answered and written of a table x
 module _ {X : Type 0} (f : List X → List ℕ) (x : List X) (out : List ℕ) (asked words : ℕ) (ew : words ≡ length (f x)) where

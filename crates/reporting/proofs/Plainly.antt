@@ -6,18 +6,16 @@ use Prim.Native.Nat.{ℕ, ◌+◌, ◌≤◌}
 use native.Mathlib.Omega.{arith}
 use lib.Dec.{ltb}
 use lib.ListN.{length}
-use Rattle.expression.specs.declared.Checked.{Checked}
-use Rattle.expression.specs.declared.Checked.TheVariants.{Passed, Refused as Stopped}
 use Rattle.expression.specs.Refusals.{absent, offset, subsets_full, plans_full, report_short}
 use Rattle.expression.specs.Reading.{reading}
-use Rattle.expression.specs.Checks.{Request, check}
+use Rattle.expression.specs.Checks.{Checked, Passed, Refused as Stopped, Request, check}
 use Rattle.expression.proofs.Numbers.{check-number}
 use Rattle.tables.specs.Algebras.{tables}
 use Rattle.tables.specs.Definitions.{triples}
 use Rattle.decisions.specs.Decisions.{assumed, commands_in, plain_fault, Walked, stopped, walked, walk}
 use Rattle.decisions.proofs.Numbers.{plain-stops}
 use Rattle.walks.specs.Walks.{before}
-use Rattle.reporting.specs.declared.Report.TheVariants.{Written, Refused}
+use Rattle.reporting.specs.Report.{Written, Refused}
 use Rattle.reporting.specs.Reporting.{starts_at, Asked, refused_at, table_at, newest_in, asked_table, report_answer}
 
 module _ (K P : ℕ) (a : Request) (at : ℕ) where

@@ -1,22 +1,19 @@
 -- What a report answers and writes (01, Outcomes: 14 to 17; Tables: reports), over K labels. Assumes nothing.
-use Rattle.std.specs.Prelude.{Bool, true, false, cond, ◌&&◌, List, [], ◌++◌, ℕ, ◌+◌, ltb, length, drop}
-use Rattle.expression.specs.declared.Checked.TheVariants.{Passed, Refused as Stopped}
-use Rattle.expression.specs.declared.Located.{Located}
-use Rattle.expression.specs.declared.Located.TheVariants.{Before, Nowhere}
+use Rattle.std.specs.Prelude.{Bool, true, false, cond, ◌&&◌, List, [], ◌++◌, ℕ, ◌+◌, ltb, length, drop, Option, Some, None}
+use Rattle.expression.specs.declared.Counts.{Counts}
 use Rattle.expression.specs.Refusals.{offset, report_short}
 use Rattle.expression.specs.Reading.{reading}
-use Rattle.expression.specs.Checks.{Request, check, need_of}
+use Rattle.expression.specs.Checks.{Passed, Refused as Stopped, Request, check, need_of}
 use Rattle.expression.specs.Places.{locate}
 use Rattle.tables.specs.Algebras.{Algebra, tables}
 use Rattle.decisions.specs.Decisions.{assumed, commands_in, newest, Walked, stopped, walked, walk}
 use Rattle.walks.specs.Walks.{before}
 use Rattle.stacks.specs.Stacks.{cleared}
-use Rattle.reporting.specs.declared.Report.{Report}
-use Rattle.reporting.specs.declared.Report.TheVariants.{Written, Refused}
+use Rattle.reporting.specs.Report.{Report, Written, Refused}
 
-abbrev pub is_before : Located → Bool
-is_before (Before n) = true
-is_before Nowhere = false
+abbrev pub is_before : Option Counts → Bool
+is_before (Some n) = true
+is_before None = false
 
 -- a command starts at the offset
 unfoldable pub starts_at : ℕ → List ℕ → ℕ → Bool

@@ -25,11 +25,9 @@ pub fn report_words(ws: &[u32], kind: Tables, w: usize, p: usize, a: usize, n: u
     ensures { result ≡ length (report_of kind (rows_in w n (part a (p * w) ws.now))) }
 {
     let mut total = 0;
-    let mut j = 0;
-    while j < n {
+    for j in 0..n {
         let at = a + j * w;
         total += entry_words(kind, ws[at + 1]);
-        j += 1;
     }
     total
 }
@@ -50,12 +48,10 @@ pub fn write_report(
     ensures { out.new ≡ report_of kind (rows_in w n (part a (p * w) ws.now)) ++ drop (length (report_of kind (rows_in w n (part a (p * w) ws.now)))) out.old }
 {
     let mut to = 0;
-    let mut j = 0;
-    while j < n {
+    for j in 0..n {
         let at = a + j * w;
         let k = entry_words(kind, ws[at + 1]);
         words::copy_words(&mut out[to..to + k], &ws[at..at + k]);
         to += k;
-        j += 1;
     }
 }

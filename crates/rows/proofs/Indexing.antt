@@ -7,7 +7,7 @@ use native.Mathlib.Omega.{arith}
 use lib.ListN.{length, take, drop, get_or, length-append, length-take, length-drop, length-map, drop_of_length-le}
 use lib.Seq.{take-length, length-take-le, take_at, drop_at, take-take, take-add, get_or-take}
 use borrow.Rule.Slice.PartMut.{put_mid, mid_of, Post-is}
-use Rattle.lists.specs.declared.Order.TheVariants.{Same}
+use Rattle.std.specs.declared.cmp.Ordering.TheVariants.{Equal}
 use Rattle.lists.specs.Lists.{All}
 use Rattle.lists.specs.Sorted.{compare_lists, second, rank, Rising}
 use Rattle.lists.proofs.Members.{all_append, all-get, all_take, all_drop, all_map, map-take, map-drop}
@@ -130,12 +130,12 @@ module _ {w p m : ℕ} {area index : List ℕ} (h : Indexed w p m area index) wh
     pub rank-low : k ≤ m
     rank-low = omega (arith, kr, rank-le compare_lists x (sorted_of w m area index), sorted-long)
 
-    pub there-named : There x (sorted_of w m area index) → (k < m) × (compare_lists x (pair_of (slot w (get_or index k 0) area)) ≡ Same)
+    pub there-named : There x (sorted_of w m area index) → (k < m) × (compare_lists x (pair_of (slot w (get_or index k 0) area)) ≡ Equal)
     there-named t =
         let l : k < m = omega (arith, t.0, kr, sorted-long) in
         (l, ap (compare_lists x) (sym (sorted-at k l)) ∙ rw kr t.1)
 
-    pub named-there : k < m → compare_lists x (pair_of (slot w (get_or index k 0) area)) ≡ Same → There x (sorted_of w m area index)
+    pub named-there : k < m → compare_lists x (pair_of (slot w (get_or index k 0) area)) ≡ Equal → There x (sorted_of w m area index)
     named-there l e = (omega (arith, kr, sorted-long), rw (← kr, sorted-at k l) e)
 
   -- ---- one row more, at place k of the rising order

@@ -1,19 +1,15 @@
 -- One row in words: what it reads as, a row stored over it, a row cleared. Assumes nothing.
 use mathlib.Core.Path.{◌≡◌, refl, sym, ap, ◌∙◌, subst}
-use mathlib.Core.List.{List, [], ◌∷◌, ◌++◌, append_assoc}
-use Prim.Native.Nat.{ℕ, zero, suc, ◌+◌, ◌-◌, ◌*◌, ◌≤◌, ◌<◌}
-use native.Mathlib.Nat.{le_of_suc-le-suc, not-suc-le-zero, suc-mul, zero-mul, zero-add, mul-le-mul_right, add_comm}
-use native.Mathlib.Decide.{dec_le}
+use mathlib.Core.List.{List, [], ◌∷◌, ◌++◌}
+use Prim.Native.Nat.{ℕ, suc, ◌+◌, ◌-◌, ◌≤◌, ◌<◌}
 use native.Mathlib.Omega.{arith}
-use lib.ListN.{length, take, drop, get_or, replicate, length-append, length-drop, length-replicate, replicate-append-replicate}
-use lib.Seq.{length-take-le, take_at, drop_at, take-append-add, drop-append-add, drop-drop}
+use lib.ListN.{length, take, drop, get_or, length-append, length-drop, length-replicate}
+use lib.Seq.{length-take-le, take_at, drop-append-add, drop-drop}
 use borrow.Rule.Slice.PartMut.{put_mid, mid_of, Post-is, mid_len}
-use Rattle.lists.specs.Lists.{All}
-use Rattle.lists.proofs.Members.{all-get}
-use Rattle.tables.specs.Definitions.{Pair, own_triple, subsets}
+use Rattle.tables.specs.Definitions.{Pair}
 use Rattle.candidates.specs.Candidates.{pair_of, Readable}
-use Rattle.rows.specs.Parts.{part, put, zeros}
-use Rattle.rows.specs.Rows.{row_of, Fit, table_of, rows_in, IsRow, Rows, slot}
+use Rattle.rows.specs.Parts.{zeros}
+use Rattle.rows.specs.Rows.{row_of, Fit, IsRow}
 use Rattle.rows.proofs.Parts.{drop-zeros, zeros-append}
 
 -- ---- one row

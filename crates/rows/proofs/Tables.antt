@@ -2,15 +2,14 @@
 use mathlib.Core.Path.{◌≡◌, refl, sym, ap, ap₂, ◌∙◌, subst}
 use mathlib.Core.List.{List, [], ◌∷◌, ◌++◌, append_assoc}
 use Prim.Native.Nat.{ℕ, zero, suc, ◌+◌, ◌-◌, ◌*◌, ◌≤◌, ◌<◌}
-use native.Mathlib.Nat.{le_of_suc-le-suc, not-suc-le-zero, suc-mul, zero-mul, zero-add, mul-le-mul_right, add_comm}
+use native.Mathlib.Nat.{le_of_suc-le-suc, not-suc-le-zero, suc-mul, zero-mul, mul-le-mul_right, add_comm}
 use native.Mathlib.Decide.{dec_le}
 use native.Mathlib.Omega.{arith}
-use lib.ListN.{length, take, drop, get_or, replicate, length-append, length-drop, length-replicate, replicate-append-replicate}
+use lib.ListN.{length, take, drop, get_or, replicate, length-append, length-replicate, replicate-append-replicate}
 use lib.Seq.{take-take, length-take-le, take_at, drop_at, take-append-add, drop-append-add, drop-drop}
-use borrow.Rule.Slice.PartMut.{put_mid, mid_of, Post-is, mid_len}
 use Rattle.lists.specs.Lists.{All}
 use Rattle.lists.proofs.Members.{all-get, all_take, all_append}
-use Rattle.tables.specs.Definitions.{Pair, own_triple, subsets}
+use Rattle.tables.specs.Definitions.{Pair}
 use Rattle.candidates.specs.Candidates.{pair_of, Readable}
 use Rattle.rows.specs.Parts.{part, put, zeros}
 use Rattle.rows.specs.Rows.{row_of, Fit, table_of, rows_in, IsRow, Rows, slot}

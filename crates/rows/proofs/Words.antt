@@ -1,29 +1,37 @@
--- Lists of words compared from a place on. Assumes nothing.
-use mathlib.Core.Path.{◌≡◌, refl, sym, ap, ◌∙◌}
-use mathlib.Core.List.{List, [], ◌∷◌}
-use Prim.Native.Nat.{ℕ, ◌+◌, ◌≤◌, ◌<◌}
-use native.Mathlib.Numerals.{add-one}
-use lib.ListN.{length, drop, get_or, drop_of_length-le}
-use lib.Seq.{drop-cons}
-use Rattle.lists.specs.declared.Order.{Order}
-use Rattle.lists.specs.declared.Order.TheVariants.{Less, Same, More}
-use Rattle.lists.specs.Sorted.{by_order, compare_numbers, compare_lists}
+-- Lists of words compared from the front on. Assumes nothing.
+use Rattle.std.proofs.Common.{◌≡◌, ℕ, ◌+◌, ◌⊎◌, inl, inr, true, false, List, [], ◌∷◌, length, refl, sym, arith}
+use mathlib.Core.Bool.{true≢false, false≢true}
+use Rattle.std.specs.declared.cmp.Ordering.{Ordering}
+use Rattle.std.specs.declared.cmp.Ordering.TheVariants.{Less, Equal, Greater}
+use Rattle.std.specs.Ordering.{nat_cmp, ordering_then, is_ne}
+use Rattle.std.specs.Cmp.{nat_cmp_is}
+use Rattle.lists.specs.Sorted.{compare_numbers, compare_lists}
 
--- the order at place i of both lists
-pub compare-at : (xs ys : List ℕ) (i : ℕ) → i < length xs → i < length ys
-    → compare_lists (drop i xs) (drop i ys) ≡ by_order (compare_numbers (get_or xs i 0) (get_or ys i 0)) Less (compare_lists (drop (i + 1) xs) (drop (i + 1) ys)) More
-unfolding compare_lists
-compare-at xs ys i l k = rw (add-one i, drop-cons xs i 0 l, drop-cons ys i 0 k)
+decided : (o p : Ordering) → is_ne o ≡ true → ordering_then o p ≡ o
+decided Less p h = refl
+decided Equal p h = absurd (false≢true h)
+decided Greater p h = refl
 
--- the second list is at its end, and the first is not
-pub compare-longer : (xs ys : List ℕ) (i : ℕ) → i < length xs → length ys ≤ i → compare_lists (drop i xs) (drop i ys) ≡ More
-unfolding compare_lists
-compare-longer xs ys i l k = rw (drop-cons xs i 0 l, drop_of_length-le ys k)
+passed : (o p : Ordering) → is_ne o ≡ false → ordering_then o p ≡ p
+passed Less p h = absurd (true≢false h)
+passed Equal p h = refl
+passed Greater p h = absurd (true≢false h)
 
-pub compare-shorter : (xs ys : List ℕ) (i : ℕ) → length xs ≤ i → i < length ys → compare_lists (drop i xs) (drop i ys) ≡ Less
-unfolding compare_lists
-compare-shorter xs ys i l k = rw (drop-cons ys i 0 k, drop_of_length-le xs l)
+-- the first words differ, and decide
+pub compare-here : (x y : ℕ) (xs ys : List ℕ) (o : Ordering) → o ≡ nat_cmp x y → is_ne o ≡ true → compare_lists (x ∷ xs) (y ∷ ys) ≡ o
+unfolding compare_lists compare_numbers
+compare-here x y xs ys o e h = rw (sym e) (decided o (compare_lists xs ys) h)
 
-pub compare-ended : (xs ys : List ℕ) (i : ℕ) → length xs ≤ i → length ys ≤ i → compare_lists (drop i xs) (drop i ys) ≡ Same
+-- they do not, and the others do
+pub compare-on : (x y : ℕ) (xs ys : List ℕ) (o : Ordering) → o ≡ nat_cmp x y → is_ne o ≡ false → compare_lists (x ∷ xs) (y ∷ ys) ≡ compare_lists xs ys
+unfolding compare_lists compare_numbers
+compare-on x y xs ys o e h = rw (sym e) (passed o (compare_lists xs ys) h)
+
+-- one list has ended: what lengths m and n say, which are as far apart
+pub compare-ended : (xs ys : List ℕ) (m n : ℕ) → m + length ys ≡ n + length xs → (length xs ≡ 0) ⊎ (length ys ≡ 0) → nat_cmp m n ≡ compare_lists xs ys
 unfolding compare_lists
-compare-ended xs ys i l k = rw (drop_of_length-le ys k, drop_of_length-le xs l)
+compare-ended [] [] m n e h = sym (nat_cmp_is m n Equal (omega arith))
+compare-ended [] (y ∷ ys) m n e h = sym (nat_cmp_is m n Less (omega arith))
+compare-ended (x ∷ xs) [] m n e h = sym (nat_cmp_is m n Greater (omega arith))
+compare-ended (x ∷ xs) (y ∷ ys) m n e (inl h) = absurd (omega arith)
+compare-ended (x ∷ xs) (y ∷ ys) m n e (inr h) = absurd (omega arith)

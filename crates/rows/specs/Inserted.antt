@@ -1,6 +1,6 @@
 -- What inserting a row into a table that is being made answers and leaves. Assumes nothing.
-use Rattle.std.specs.Prelude.{◌≡◌, List, [], ◌∷◌, ◌++◌, ℕ, ◌+◌, ◌≤◌, ◌<◌, length, take, drop, get_or}
-use Rattle.lists.specs.declared.Order.TheVariants.{Same}
+use Rattle.std.specs.Prelude.{◌≡◌, List, [], ◌∷◌, ◌++◌, ℕ, ◌+◌, ◌<◌, length, take, drop, get_or}
+use Rattle.std.specs.declared.cmp.Ordering.TheVariants.{Equal}
 use Rattle.lists.specs.Sorted.{compare_lists, rank}
 use Rattle.tables.specs.Definitions.{Pair}
 use Rattle.rows.specs.declared.Placed.{Placed}
@@ -9,7 +9,7 @@ use Rattle.rows.specs.Rows.{sorted_of, Indexed}
 
 -- x is among the pairs
 abbrev pub There : Pair → List Pair → Type 0
-There x ts = (rank compare_lists x ts < length ts) × (compare_lists x (get_or ts (rank compare_lists x ts) []) ≡ Same)
+There x ts = (rank compare_lists x ts < length ts) × (compare_lists x (get_or ts (rank compare_lists x ts) []) ≡ Equal)
 
 -- new, at place k of the rising order; there already, at place k; or new where all p rows are taken
 abbrev pub Inserted : ℕ → ℕ → ℕ → Pair → List ℕ → List ℕ → List ℕ → List ℕ → Placed → Type 0

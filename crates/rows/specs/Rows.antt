@@ -1,5 +1,5 @@
 -- Tables of pairs as words (01, "One command a call"): rows of w = G + 2 words, the pair's Q, how many subsets, the subsets, zeros. Assumes nothing.
-use Rattle.std.specs.Prelude.{◌≡◌, List, [], ◌∷◌, ◌++◌, map, ℕ, zero, suc, ◌+◌, ◌-◌, ◌*◌, ◌≤◌, ◌<◌, length, take, drop, get_or}
+use Rattle.std.specs.Prelude.{◌≡◌, List, [], ◌∷◌, ◌++◌, map, ℕ, zero, suc, ◌+◌, ◌-◌, ◌*◌, ◌≤◌, ◌<◌, length, take, drop}
 use Rattle.lists.specs.Lists.{All}
 use Rattle.lists.specs.Sorted.{compare_lists, Rising}
 use Rattle.tables.specs.Definitions.{Pair, own_triple, subsets}

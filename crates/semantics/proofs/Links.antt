@@ -8,7 +8,7 @@ use lib.Dec.{eqb}
 use borrow.Author.Tests.{eqb-true, ne_eqb}
 use Rattle.lists.proofs.Members.{map-map, map_same}
 use Rattle.expression.specs.declared.Kind.{Kind}
-use Rattle.semantics.specs.Expressions.{Expr, connect, link, trees}
+use Rattle.semantics.specs.Expressions.{Expr, link, trees}
 use Rattle.semantics.specs.Programs.{Atom, Rule, atoms, labelled, extend, connect_rule, link_rule, rules}
 use Rattle.semantics.proofs.Again.{extend-label}
 

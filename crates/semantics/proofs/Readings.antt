@@ -13,12 +13,10 @@ use Rattle.expression.specs.declared.Kind.TheVariants.{Head, Positive, Negative}
 use Rattle.expression.specs.declared.Role.TheVariants.{Derived, External}
 use Rattle.expression.specs.declared.Command.{Command}
 use Rattle.expression.specs.declared.Command.TheVariants.{Rule, Union, Relabel, Connect, Name}
-use Rattle.expression.specs.declared.Read.{Read}
-use Rattle.expression.specs.declared.Read.TheVariants.{Command as Got, Fault}
 use Rattle.expression.specs.declared.Counts.{Counts}
 use Rattle.expression.specs.Limits.{atom_limit}
 use Rattle.expression.specs.Refusals.{unknown, cut, group, same}
-use Rattle.expression.specs.Commands.{one_operand, two_operands, is_name, is_command, tail_length, name_start, atom_of, command_of, read_command, read_at, Suits}
+use Rattle.expression.specs.Commands.{Read, Got, Fault, one_operand, two_operands, is_name, is_command, tail_length, name_start, atom_of, command_of, read_command, read_at, Suits}
 use Rattle.expression.specs.Effects.{effect, operands_by}
 use Rattle.expression.specs.Reading.{depth_after, counted, count_fault, Placed, Reading, faulty, whole, no_counts, behind, read_from, reading}
 use Rattle.expression.proofs.Totals.{Limited, none-limited, counted-limited, passes-operands}

@@ -3,8 +3,7 @@ use mathlib.Core.Path.{◌≡◌}
 use mathlib.Core.List.{List}
 use Prim.Native.Nat.{ℕ}
 use Rattle.expression.specs.declared.Counts.{Counts}
-use Rattle.expression.specs.declared.Checked.TheVariants.{Passed, Refused}
-use Rattle.expression.specs.Checks.{Request, check, need_of}
+use Rattle.expression.specs.Checks.{Passed, Refused, Request, check, need_of}
 use Rattle.stacks.specs.Stacks.{cleared, words_after}
 
 module _ (K : ℕ) (a : Request) (ws : List ℕ) where

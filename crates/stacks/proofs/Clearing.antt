@@ -2,7 +2,7 @@
 use mathlib.Core.Path.{◌≡◌, refl, sym, ap, ◌∙◌, subst}
 use mathlib.Core.List.{List, [], ◌∷◌, ◌++◌, map}
 use Prim.Native.Nat.{ℕ, suc, ◌+◌, ◌-◌, ◌*◌, ◌≤◌, ◌<◌}
-use native.Mathlib.Nat.{sub-zero, sub_self}
+use native.Mathlib.Nat.{sub-zero, sub_self, mul-le-mul_right}
 use native.Mathlib.Omega.{arith}
 use lib.ListN.{length, drop, get_or, length-drop, length-map, drop_of_length-le}
 use lib.Seq.{drop-cons}
@@ -76,6 +76,11 @@ module _ {d w p t : ℕ} {ts : List (List Pair)} {beyond counts ws : List ℕ} (
 
   pub counts-room : t ≤ length counts
   counts-room = rw h.tallies (subst (λ (j : ℕ). j ≤ length (counts_of h.room ts)) h.tables (counts-within h.room ts))
+
+  pub stack-room : t * k ≤ length ws
+  stack-room =
+      let few : t ≤ d = omega (arith, h.tables, h.within) in
+      omega (arith, mul-le-mul_right k few, ap length h.words ∙ workspace-long w p d beyond ts h.sound h.within)
 
   -- the newest of i tables cleared
   module _ (i j : ℕ) (q : suc j ≡ i) (l : i ≤ t) where

@@ -1,7 +1,7 @@
 -- Words cleared, and how many entries each table of a stack has, beside its workspace (01, Outcomes and "One command a call"). Assumes nothing.
 use Rattle.std.specs.Prelude.{◌≡◌, cond, List, ◌++◌, ℕ, ◌-◌, ◌≤◌, ltb, length, drop, get_or, set}
 use Rattle.lists.specs.Lists.{All}
-use Rattle.expression.specs.declared.Checked.TheVariants as checked
+use Rattle.expression.specs.Checks as checked
 use Rattle.expression.specs.declared.Effect.{Effect}
 use Rattle.expression.specs.declared.Effect.TheVariants.{Push, Unite, Change, Pass}
 use Rattle.expression.specs.Effects.{operands_by, depth_by}

@@ -21,6 +21,7 @@ pub fn count_below(counts: &[u64], t: usize, k: usize) -> usize
 }
 
 // The counts after a command of such an effect on t tables, whose newest table then has r entries.
+#[tactic(auto, unfolding(crate::specs::Stacks::tallied))]
 pub fn tally(counts: &mut [u64], e: Effect, t: usize, r: u64)
     requires { Applies e t (length counts.old) }
     ensures { counts.new ≡ tallied e t r counts.old }
@@ -50,9 +51,7 @@ pub fn clear_tables(ws: &mut [u32], counts: &[u64], w: usize, p: usize, t: usize
     requires by_index { (d : ℕ) × (ts : List (List Pair)) × (beyond : List ℕ) × Counted d w p t ts beyond counts.now ws.old }
     ensures { (d : ℕ) (ts : List (List Pair)) (beyond : List ℕ) → Counted d w p t ts beyond counts.now ws.old → ws.new ≡ workspace_of d w p [] beyond }
 {
-    let mut i = t;
-    while 0 < i {
-        i -= 1;
+    for i in (0..t).rev() {
         let area = p * w;
         let at = i * area;
         let n = counts[i] as usize;

@@ -1,15 +1,14 @@
 -- What start and step are, by what the checks and the test of the record find. Over K labels. Assumes nothing.
+use Rattle.std.specs.Prelude.{Some, None}
 use mathlib.Core.Path.{◌≡◌, refl, sym, ap, ◌∙◌}
 use mathlib.Core.List.{List, [], ◌∷◌}
 use Prim.Native.Nat.{ℕ, zero, suc, ◌<◌}
 use native.Mathlib.Omega.{arith}
-use Rattle.expression.specs.declared.Checked.TheVariants as checked
+use Rattle.expression.specs.Checks as checked
 use Rattle.expression.specs.declared.Command.{Command}
 use Rattle.expression.specs.declared.Counts.{Counts}
-use Rattle.expression.specs.declared.Located.TheVariants.{Before, Nowhere}
-use Rattle.expression.specs.declared.Read.TheVariants.{Command as Got, Fault}
 use Rattle.expression.specs.Refusals.{bad_record}
-use Rattle.expression.specs.Commands.{read_at}
+use Rattle.expression.specs.Commands.{Got, Fault, read_at}
 use Rattle.expression.specs.Checks.{Request, check, need_of}
 use Rattle.semantics.specs.Expressions.{act}
 use Rattle.tables.specs.Algebras.{tables}
@@ -18,9 +17,7 @@ use Rattle.decisions.specs.Decisions.{assumed, pairs_fault, newest}
 use Rattle.workspace.specs.Workspace.{stack_counts, counts_of}
 use Rattle.stacks.specs.Stacks.{cleared}
 use Rattle.records.specs.declared.Record.{Record}
-use Rattle.records.specs.declared.Progress.{Progress}
-use Rattle.records.specs.declared.Progress.TheVariants.{Moved, Ended, Refused}
-use Rattle.records.specs.Steps.{Step, stays, start_record, found, formed_at, moves, move_to, command, step, start}
+use Rattle.records.specs.Steps.{Answer, Moved, Ended, Refused, Step, stays, start_record, found, formed_at, moves, move_to, command, step, start}
 use Rattle.starts.specs.Stepping.{Follows}
 
 module _ (K : ℕ) (a : Request) (r : Record) (ws : List ℕ) where
@@ -46,13 +43,13 @@ module _ (K : ℕ) (a : Request) (r : Record) (ws : List ℕ) where
     start-passed = rw (h, start)
 
     -- the record has not the form asked for
-    module _ (e : formed_at K a r ws ≡ Nowhere) where
+    module _ (e : formed_at K a r ws ≡ None) where
       pub step-unformed : step K a r ws ≡ stays (Refused bad_record r.place) r ws
       unfolding step
       step-unformed = rw (h, step, e)
 
     -- it has
-    module _ {n : Counts} (e : formed_at K a r ws ≡ Before n) where
+    module _ {n : Counts} (e : formed_at K a r ws ≡ Some n) where
       pub step-formed : step K a r ws ≡ command K a n r ws
       unfolding step
       step-formed = rw (h, step, e)
@@ -80,11 +77,11 @@ module _ (K : ℕ) (a : Request) (r : Record) (ws : List ℕ) where
 
 -- ---- what a call hands back, by what the definition is
 
-pub by-stays : {x : Step} {q : Progress} {r : Record} {ws : List ℕ} → x ≡ stays q r ws → (q' : Progress) → q' ≡ q → Follows x r q' ws
+pub by-stays : {x : Step} {q : Answer} {r : Record} {ws : List ℕ} → x ≡ stays q r ws → (q' : Answer) → q' ≡ q → Follows x r q' ws
 unfolding stays
 by-stays e q' f = (sym (ap (λ (y : Step). y.state) e), f ∙ sym (ap (λ (y : Step). y.answer) e), sym (ap (λ (y : Step). y.words) e))
 
-pub by_all : {x y : Step} {r : Record} {q : Progress} {ws : List ℕ} → x ≡ y → Follows y r q ws → Follows x r q ws
+pub by_all : {x y : Step} {r : Record} {q : Answer} {ws : List ℕ} → x ≡ y → Follows y r q ws → Follows x r q ws
 by_all e (f, g, h) = (f ∙ sym (ap (λ (y : Step). y.state) e), g ∙ sym (ap (λ (y : Step). y.answer) e), h ∙ sym (ap (λ (y : Step). y.words) e))
 
 -- start's record is the one of no tables

@@ -13,8 +13,7 @@ use Rattle.expression.specs.declared.Leaf.TheVariants as leaf
 use Rattle.expression.specs.declared.Effect.{Effect}
 use Rattle.expression.specs.declared.Effect.TheVariants.{Push, Unite, Change, Pass}
 use Rattle.expression.specs.declared.Counts.{Counts}
-use Rattle.expression.specs.declared.Read.TheVariants.{Command as Got}
-use Rattle.expression.specs.Commands.{Suits, read_at}
+use Rattle.expression.specs.Commands.{Got, Suits, read_at}
 use Rattle.expression.specs.Effects.{effect}
 use Rattle.semantics.proofs.Readings.{read-suits}
 use Rattle.batches.specs.Batches.{JoinsBy, Joins, command_of, commands_of}

@@ -1,17 +1,14 @@
 -- Commands of an expression that may be done at once on the newest table: relabels, connects, and a rule with the union behind it. Assumes nothing.
-use Rattle.std.specs.Prelude.{◌≡◌, List, [], ◌∷◌, ℕ, ◌<◌}
+use Rattle.std.specs.Prelude.{Option, Some, None, ◌≡◌, List, [], ◌∷◌, ℕ, ◌<◌}
 use Rattle.expression.specs.declared.Command.{Command}
 use Rattle.expression.specs.declared.Command.TheVariants.{Union}
 use Rattle.expression.specs.declared.Leaf.TheVariants as leaf
 use Rattle.expression.specs.declared.Effect.{Effect}
 use Rattle.expression.specs.declared.Effect.TheVariants.{Push, Unite, Change, Pass}
 use Rattle.expression.specs.declared.Counts.{Counts}
-use Rattle.expression.specs.declared.Read.TheVariants.{Command as Got}
-use Rattle.expression.specs.Commands.{read_at}
+use Rattle.expression.specs.Commands.{Got, read_at}
 use Rattle.expression.specs.Effects.{effect}
 use Rattle.expression.specs.Reading.{counted_by, capped}
-use Rattle.stretches.specs.declared.Joined.{Joined}
-use Rattle.stretches.specs.declared.Joined.TheVariants.{By, Other}
 
 module _ (K : ℕ) (s : List ℕ) (stop : ℕ) where
   -- commands one after the other that pass tables by (02, Item 1: names), each starts before `stop`
@@ -31,9 +28,10 @@ module _ (K : ℕ) (s : List ℕ) (stop : ℕ) where
   abbrev pub Spelt : ℕ → Command → ℕ → Type 0
   Spelt at c next = SpeltAs (effect c) at c next
 
-  abbrev pub SpeltBy : ℕ → Joined → Type 0
-  SpeltBy at (By c next) = Spelt at c next
-  SpeltBy at Other = Unit {0}
+  -- such a command and the offset after it, if there is one
+  abbrev pub SpeltBy : ℕ → Option (Command × ℕ) → Type 0
+  SpeltBy at (Some (c, next)) = Spelt at c next
+  SpeltBy at None = Unit {0}
 
   -- such commands one after the other, each starts before `stop`
   unfoldable pub Chain : ℕ → ℕ → List Command → Type 0
@@ -41,11 +39,11 @@ module _ (K : ℕ) (s : List ℕ) (stop : ℕ) where
   Chain at end (c ∷ cs) = (at < stop) × ((next : ℕ) × Spelt at c next × Chain next end cs)
 
 -- a rule c before a command of such an effect, which ends at `next`
-abbrev pub closed_by : Command → ℕ → Effect → Joined
-closed_by c next (Push l) = Other
-closed_by c next Unite = By c next
-closed_by c next Change = Other
-closed_by c next Pass = Other
+abbrev pub closed_by : Command → ℕ → Effect → Option (Command × ℕ)
+closed_by c next (Push l) = None
+closed_by c next Unite = Some (c, next)
+closed_by c next Change = None
+closed_by c next Pass = None
 
 -- what they leave of the counts: a leaf has its union behind it
 abbrev pub joined_by : Counts → Effect → Counts

@@ -3,24 +3,16 @@
 
 ghost use Rattle.std.specs.Prelude.{◌≡◌, ℕ, ◌≤◌, length, take};
 ghost use Rattle.labels.specs.Labels.{label_count};
-ghost use Rattle.expression.specs.declared.Read.TheVariants.{Command as Got};
 ghost use Rattle.expression.specs.declared.Effect.TheVariants.{Push};
-ghost use Rattle.expression.specs.Commands.{read_at};
+ghost use Rattle.expression.specs.Commands.{Got, read_at};
 ghost use Rattle.expression.specs.Effects.{effect};
 ghost use Rattle.batches.specs.Batches.{commands_of};
 ghost use Rattle.stretches.specs.Stretches.{SpeltBy, Chain, closed_by, joined_counts, chain_counts};
 
 use commands::counting::counted_by;
 use commands::effects::effect;
-use expression::{Command, Counts, Effect, Leaf, Read};
+use expression::{Command, Counts, Effect, Leaf};
 use reader::read_next;
-
-// Such a command, and the offset after it; or another one.
-#[derive(Clone, Copy)]
-pub enum Joined {
-    By(Command, usize),
-    Other,
-}
 
 // How far such commands go, how many they are, and the counts after them.
 #[derive(Clone, Copy)]
@@ -31,30 +23,27 @@ pub struct Stretch {
 }
 
 // A rule c before a command of such an effect, which ends at `next`.
-fn closed_by(c: Command, next: usize, e: Effect) -> Joined
+fn closed_by(c: Command, next: usize, e: Effect) -> Option<(Command, usize)>
     ensures { result ≡ closed_by c next e }
 {
     match e {
-        Effect::Push(_) => Joined::Other,
-        Effect::Unite => Joined::By(c, next),
-        Effect::Change => Joined::Other,
-        Effect::Pass => Joined::Other,
+        Effect::Unite => Some((c, next)),
+        Effect::Push(_) | Effect::Change | Effect::Pass => None,
     }
 }
 
 // A command c that pushes a leaf and ends at `mid`, if it is a rule and a union that starts before `stop` stands behind it. Names between the two change
 // nothing (02, Item 1).
-fn with_union(s: &[u8], stop: usize, c: Command, l: Leaf, mid: usize) -> Joined
+fn with_union(s: &[u8], stop: usize, c: Command, l: Leaf, mid: usize) -> Option<(Command, usize)>
     ensures { (at : ℕ) → read_at label_count s.now at ≡ Got c mid → effect c ≡ Push l → SpeltBy label_count s.now stop at result }
 {
     let Leaf::Rule = l else {
-        return Joined::Other;
+        return None;
     };
     let mut end = mid;
     while end < stop {
-        let r = read_next(s, end);
-        let Read::Command(d, next) = r else {
-            return Joined::Other;
+        let Ok((d, next)) = read_next(s, end) else {
+            return None;
         };
         let e = effect(d);
         let Effect::Pass = e else {
@@ -62,23 +51,21 @@ fn with_union(s: &[u8], stop: usize, c: Command, l: Leaf, mid: usize) -> Joined
         };
         end = next;
     }
-    Joined::Other
+    None
 }
 
-// What stands at an offset.
-fn joined_at(s: &[u8], stop: usize, at: usize) -> Joined
+// Such a command at an offset, if there is one, and the offset after it.
+fn joined_at(s: &[u8], stop: usize, at: usize) -> Option<(Command, usize)>
     ensures { SpeltBy label_count s.now stop at result }
 {
-    let r = read_next(s, at);
-    let Read::Command(c, next) = r else {
-        return Joined::Other;
+    let Ok((c, next)) = read_next(s, at) else {
+        return None;
     };
     let e = effect(c);
     match e {
         Effect::Push(l) => with_union(s, stop, c, l, next),
-        Effect::Unite => Joined::Other,
-        Effect::Change => Joined::By(c, next),
-        Effect::Pass => Joined::Other,
+        Effect::Change => Some((c, next)),
+        Effect::Unite | Effect::Pass => None,
     }
 }
 
@@ -101,9 +88,8 @@ pub fn read_stretch(s: &[u8], stop: usize, at: usize, n: Counts, ops: &mut [u32]
     ensures { (result.count ≤ length ops.new) × Chain label_count s.now stop at result.next (commands_of (take result.count ops.new)) × (result.counts ≡ chain_counts n (commands_of (take result.count ops.new))) }
 {
     let mut next = at;
-    let mut count = 0;
     let mut counts = n;
-    while count < ops.len() {
+    for count in 0..ops.len() {
         if stop <= next {
             return Stretch {
                 next,
@@ -111,8 +97,7 @@ pub fn read_stretch(s: &[u8], stop: usize, at: usize, n: Counts, ops: &mut [u32]
                 counts,
             };
         }
-        let j = joined_at(s, stop, next);
-        let Joined::By(c, after) = j else {
+        let Some((c, after)) = joined_at(s, stop, next) else {
             return Stretch {
                 next,
                 count,
@@ -121,12 +106,11 @@ pub fn read_stretch(s: &[u8], stop: usize, at: usize, n: Counts, ops: &mut [u32]
         };
         ops[count] = batches::word_of(c);
         counts = joined_counts(counts, c);
-        count += 1;
         next = after;
     }
     Stretch {
         next,
-        count,
+        count: ops.len(),
         counts,
     }
 }

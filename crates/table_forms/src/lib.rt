@@ -21,15 +21,13 @@ fn is_table(area: &[u32], w: usize, p: usize, n: usize) -> bool
     if !is_row(&area[..w]) {
         return false;
     }
-    let mut i = 1;
-    while i < n {
+    for i in 1..n {
         let at = i * w;
         if !is_next_row(&area[at - w..at], &area[at..at + w]) {
             return false;
         }
-        i += 1;
     }
-    are_zero(&area[i * w..])
+    are_zero(&area[n * w..])
 }
 
 // Whether the words are tables of so many pairs each, the oldest first, in areas of p rows of w words, and zeros behind them.
@@ -38,14 +36,11 @@ pub fn are_tables(ws: &[u32], counts: &[u64], w: usize, p: usize) -> bool
     ensures { result ≡ are_tables label_count w p counts.now ws.now }
 {
     let k = p * w;
-    let mut i = 0;
-    while i < counts.len() {
+    for (i, n) in counts.iter().enumerate() {
         let at = i * k;
-        let n = counts[i] as usize;
-        if !is_table(&ws[at..at + k], w, p, n) {
+        if !is_table(&ws[at..at + k], w, p, *n as usize) {
             return false;
         }
-        i += 1;
     }
-    are_zero(&ws[i * k..])
+    are_zero(&ws[counts.len() * k..])
 }

@@ -7,7 +7,7 @@ use Prim.Native.Nat.{ℕ, ◌+◌, ◌*◌, ◌-◌, ◌^◌, ◌<◌}
 use native.Mathlib.Omega.{arith}
 use lib.Dec.{eqb}
 use borrow.Author.Tests.{ne_eqb}
-use Rattle.lists.specs.declared.Order.{Order}
+use Rattle.std.specs.declared.cmp.Ordering.{Ordering}
 use Rattle.lists.specs.Lists.{All}
 use Rattle.lists.specs.Sorted.{compare_numbers, second, canon, set_of}
 use Rattle.lists.proofs.Members.{map-map}
@@ -27,7 +27,7 @@ use Rattle.tables.proofs.Answers.{triples-lawful, pairs-lawful}
 -- ---- tables over any algebra
 
 -- two maps, in order before and after, by what they do to each element
-canon-maps : {X : Type 0} {cmp : X → X → Order} {merge : X → X → X} → Lawful cmp merge → (f g f' g' : X → X) → ((x : X) → g (f x) ≡ g' (f' x))
+canon-maps : {X : Type 0} {cmp : X → X → Ordering} {merge : X → X → X} → Lawful cmp merge → (f g f' g' : X → X) → ((x : X) → g (f x) ≡ g' (f' x))
     → (xs : List X) → canon cmp merge (map g (canon cmp merge (map f xs))) ≡ canon cmp merge (map g' (canon cmp merge (map f' xs)))
 canon-maps {cmp = cmp} {merge = merge} L f g f' g' h xs = canon-map L L g (map f xs) ∙ ap (canon cmp merge) (map-map g f (λ x. g' (f' x)) h xs ∙ sym (map-map g' f' (λ x. g' (f' x)) (λ x. refl) xs)) ∙ sym (canon-map L L g' (map f' xs))
 

@@ -4,8 +4,9 @@ use mathlib.Core.Path.{◌≡◌, refl, sym, ap, ap₂, ◌∙◌}
 use mathlib.Core.Bool.{Bool, true, false, cond}
 use mathlib.Core.List.{List, [], ◌∷◌, ◌++◌, map}
 use Prim.Native.Nat.{ℕ}
-use Rattle.lists.specs.declared.Order.{Order}
-use Rattle.lists.specs.declared.Order.TheVariants.{Less, Same, More}
+use Rattle.std.specs.declared.cmp.Ordering.{Ordering}
+use Rattle.std.specs.declared.cmp.Ordering.TheVariants.{Less, Equal, Greater}
+use Rattle.std.specs.Ordering.{ordering_then}
 use Rattle.lists.specs.Lists.{products}
 use Rattle.lists.specs.Sorted.{by_order, compare_numbers, compare_lists, insert, insert_all, canon, set_of}
 use Rattle.lists.proofs.Members.{products-map}
@@ -37,12 +38,12 @@ module _ {X Y : Type 0} {A : Algebra X} {B : Algebra Y} {h : X → Y} (M : Morph
       step (A.order x y) (map-insert x ys)
       ∙ ap (λ o. by_order o (h x ∷ h y ∷ map h ys) (B.merge (h x) (h y) ∷ map h ys) (h y ∷ insert B.order B.merge (h x) (map h ys))) (sym (M.order x y))
     where
-      step : (o : Order) → map h (insert A.order A.merge x ys) ≡ insert B.order B.merge (h x) (map h ys)
+      step : (o : Ordering) → map h (insert A.order A.merge x ys) ≡ insert B.order B.merge (h x) (map h ys)
           → map h (by_order o (x ∷ y ∷ ys) (A.merge x y ∷ ys) (y ∷ insert A.order A.merge x ys))
           ≡ by_order o (h x ∷ h y ∷ map h ys) (B.merge (h x) (h y) ∷ map h ys) (h y ∷ insert B.order B.merge (h x) (map h ys))
       step Less k = refl
-      step Same k = ap {B = List Y} (λ z. z ∷ map h ys) (M.merge x y)
-      step More k = ap {B = List Y} (λ l. h y ∷ l) k
+      step Equal k = ap {B = List Y} (λ z. z ∷ map h ys) (M.merge x y)
+      step Greater k = ap {B = List Y} (λ l. h y ∷ l) k
 
   map-insert_all : (xs acc : List X) → map h (insert_all A.order A.merge xs acc) ≡ insert_all B.order B.merge (map h xs) (map h acc)
   unfolding insert_all
@@ -96,10 +97,10 @@ single-order : (x y : ℕ) → compare_lists (single x) (single y) ≡ compare_n
 unfolding compare_lists
 single-order x y = step (compare_numbers x y)
   where
-    step : (o : Order) → by_order o Less Same More ≡ o
+    step : (o : Ordering) → ordering_then o Equal ≡ o
     step Less = refl
-    step Same = refl
-    step More = refl
+    step Equal = refl
+    step Greater = refl
 
 pub single-morphism : (K : ℕ) → Morphism (triples K) (flat K) single
 unfolding triples flat unite_pairs map_pair set_of canon insert_all products

@@ -1,6 +1,6 @@
 -- The table of an expression over any algebra of entries. Assumes nothing.
 use Rattle.std.specs.Prelude.{cond, List, [], ◌∷◌, ◌++◌, map, ℕ}
-use Rattle.lists.specs.declared.Order.{Order}
+use Rattle.std.specs.declared.cmp.Ordering.{Ordering}
 use Rattle.lists.specs.Lists.{products}
 use Rattle.lists.specs.Sorted.{canon}
 use Rattle.expression.specs.declared.Kind.{Kind}
@@ -17,7 +17,7 @@ pub record Algebra (X : Type 0) : Type 0 where
   pub united : X → X → X
   pub relabelled : ℕ → ℕ → X → X
   pub connected : Kind → ℕ → ℕ → X → X
-  pub order : X → X → Order
+  pub order : X → X → Ordering
   pub merge : X → X → X
 
 module _ {X : Type 0} (A : Algebra X) where

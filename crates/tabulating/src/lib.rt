@@ -11,11 +11,15 @@ ghost use Rattle.workspace.specs.Workspace.{pairs_of};
 ghost use Rattle.walks.specs.Walks.{Enough, walk_to};
 ghost use Rattle.reports.specs.Reports.{report_of};
 ghost use Rattle.stacks.specs.Stacks.{cleared};
+ghost use Rattle.reporting.specs.Report.{reported_of};
 ghost use Rattle.reporting.specs.Reporting.{newest_in, report_answer, report_buffer};
 
+use checks::frames::Frame;
+use expression::Pins;
+use expression::refusals::Refusal;
 use leaves::Tables;
 use report_walks::tabulate;
-use reporting::Report;
+use reporting::Written;
 
 // As tabulate, in arrays that are long enough. Reports carry no values.
 fn tabulate_in(
@@ -28,36 +32,28 @@ fn tabulate_in(
     vals: &mut [u64],
     counts: &mut [u64],
     kind: Tables,
-    d: usize,
-    w: usize,
-    p: usize,
-    need: usize,
-    assumed_true: u64,
-    assumed_false: u64,
-) -> Report
-    requires wide { Wide kind w × (w ≤ 4096) × (1 ≤ p) × (p ≤ 1024) × (w ≤ length row.old) × (p ≤ length index.old) }
+    frame: Frame,
+    pins: Pins,
+) -> Result<Written, Refusal>
+    requires wide { Wide kind frame.width × (frame.width ≤ 4096) × (1 ≤ frame.limit) × (frame.limit ≤ 1024) × (frame.width ≤ length row.old) × (frame.limit ≤ length index.old) }
     requires counts_value { (counts.old ≡ zeros depth_limit) × (asked < length s.now) }
-    requires enough { Enough d s.now × (need ≤ length ws.old) × (d * (p * w) ≤ need) × (d ≤ area_count) }
-    ensures value { result ≡ report_answer (λ x. report_of kind (pairs_of x)) (length out.old) asked (newest_in (walk_to kind Nothing (by_masks assumed_true assumed_false) w p (asked + 1) s.now)) }
-    ensures out_after { out.new ≡ report_buffer (λ x. report_of kind (pairs_of x)) out.old (newest_in (walk_to kind Nothing (by_masks assumed_true assumed_false) w p (asked + 1) s.now)) }
-    ensures ws_after { ws.new ≡ cleared need ws.old }
+    requires enough { Enough frame.areas s.now × (frame.need ≤ length ws.old) × (frame.areas * (frame.limit * frame.width) ≤ frame.need) × (frame.areas ≤ area_count) }
+    ensures value { reported_of result ≡ report_answer (λ x. report_of kind (pairs_of x)) (length out.old) asked (newest_in (walk_to kind Nothing (by_masks pins.assumed_true pins.assumed_false) frame.width frame.limit (asked + 1) s.now)) }
+    ensures out_after { out.new ≡ report_buffer (λ x. report_of kind (pairs_of x)) out.old (newest_in (walk_to kind Nothing (by_masks pins.assumed_true pins.assumed_false) frame.width frame.limit (asked + 1) s.now)) }
+    ensures ws_after { ws.new ≡ cleared frame.need ws.old }
 {
     tabulate(
         s,
         asked,
         ws,
         out,
-        &mut row[..w],
+        &mut row[..frame.width],
         index,
         vals,
         counts,
         kind,
-        d,
-        w,
-        p,
-        need,
-        assumed_true,
-        assumed_false,
+        frame,
+        pins,
     )
 }
 
@@ -68,18 +64,14 @@ pub fn tabulate_here(
     ws: &mut [u32],
     out: &mut [u32],
     kind: Tables,
-    d: usize,
-    w: usize,
-    p: usize,
-    need: usize,
-    assumed_true: u64,
-    assumed_false: u64,
-) -> Report
-    requires wide { Wide kind w × (w ≤ 1026) × (1 ≤ p) × (p ≤ 1024) × (asked < length s.now) }
-    requires enough { Enough d s.now × (need ≤ length ws.old) × (d * (p * w) ≤ need) × (d ≤ area_count) }
-    ensures value { result ≡ report_answer (λ x. report_of kind (pairs_of x)) (length out.old) asked (newest_in (walk_to kind Nothing (by_masks assumed_true assumed_false) w p (asked + 1) s.now)) }
-    ensures out_after { out.new ≡ report_buffer (λ x. report_of kind (pairs_of x)) out.old (newest_in (walk_to kind Nothing (by_masks assumed_true assumed_false) w p (asked + 1) s.now)) }
-    ensures ws_after { ws.new ≡ cleared need ws.old }
+    frame: Frame,
+    pins: Pins,
+) -> Result<Written, Refusal>
+    requires wide { Wide kind frame.width × (frame.width ≤ 1026) × (1 ≤ frame.limit) × (frame.limit ≤ 1024) × (asked < length s.now) }
+    requires enough { Enough frame.areas s.now × (frame.need ≤ length ws.old) × (frame.areas * (frame.limit * frame.width) ≤ frame.need) × (frame.areas ≤ area_count) }
+    ensures value { reported_of result ≡ report_answer (λ x. report_of kind (pairs_of x)) (length out.old) asked (newest_in (walk_to kind Nothing (by_masks pins.assumed_true pins.assumed_false) frame.width frame.limit (asked + 1) s.now)) }
+    ensures out_after { out.new ≡ report_buffer (λ x. report_of kind (pairs_of x)) out.old (newest_in (walk_to kind Nothing (by_masks pins.assumed_true pins.assumed_false) frame.width frame.limit (asked + 1) s.now)) }
+    ensures ws_after { ws.new ≡ cleared frame.need ws.old }
 {
     let mut row = [0u32; 1026];
     let mut index = [0u32; 1024];
@@ -95,11 +87,7 @@ pub fn tabulate_here(
         &mut vals,
         &mut counts,
         kind,
-        d,
-        w,
-        p,
-        need,
-        assumed_true,
-        assumed_false,
+        frame,
+        pins,
     )
 }

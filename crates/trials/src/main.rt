@@ -5,31 +5,28 @@
 
 ghost use Rattle.std.specs.Prelude.{◌≡◌, ◌+◌, ◌/◌, ◌<◌, ◌≤◌, length, take, IfOk};
 
-use oracle::Answer;
 use oracle::answering::answer;
+use oracle::{Answer, Answered, Unanswered};
 use oracle_tables::Request;
 use std::io;
 use std::io::Read;
 
 // ---- the list: pairs of hexadecimal digits; a line that starts with # says what follows
 
-// The value of a digit; 16 of any other byte and in a remark.
-fn digit(b: u8, in_remark: bool) -> u8 {
-    if in_remark {
-        return 16;
-    }
+// The value of a digit.
+fn digit(b: u8) -> Option<u8> {
     match b {
-        0x30..=0x39 => b - 0x30,
-        0x61..=0x66 => b - 0x61 + 10,
-        _ => 16,
+        b'0'..=b'9' => Some(b - b'0'),
+        b'a'..=b'f' => Some(b - b'a' + 10),
+        _ => None,
     }
 }
 
 // Whether a remark goes on behind a byte.
 fn is_remark(b: u8, before: bool) -> bool {
     match b {
-        0x23 => true,
-        0x0a => false,
+        b'#' => true,
+        b'\n' => false,
         _ => before,
     }
 }
@@ -39,11 +36,8 @@ fn push(list: &mut [u8], n: usize, half: u8) -> usize
     requires { n / 2 < length list.old }
     ensures { result ≤ n + 1 }
 {
-    if half > 15 {
-        return n;
-    }
     let at = n / 2;
-    list[at] = list[at] % 16 * 16 + half % 16;
+    list[at] = list[at] << 4 | half;
     n + 1
 }
 
@@ -53,12 +47,12 @@ fn decode(text: &[u8], list: &mut [u8]) -> usize
     ensures { (result ≤ length list.new) × (result ≡ length (take result list.new)) }
 {
     let mut n: usize = 0;
-    let mut remark = false;
-    let mut k: usize = 0;
-    while k < text.len() {
-        remark = is_remark(text[k], remark);
-        n = push(list, n, digit(text[k], remark));
-        k += 1;
+    let mut in_remark = false;
+    for b in text {
+        in_remark = is_remark(*b, in_remark);
+        if !in_remark && let Some(half) = digit(*b) {
+            n = push(list, n, half);
+        }
     }
     n / 2
 }
@@ -72,13 +66,7 @@ fn byte(list: &[u8], at: usize) -> usize
     requires { at < length list.now }
     ensures { result ≤ 255 }
 {
-    wide(list[at])
-}
-
-fn wide(x: u8) -> usize
-    ensures { result ≤ 255 }
-{
-    x as usize
+    usize::from(list[at])
 }
 
 // A number in two bytes.
@@ -94,11 +82,7 @@ fn sheet_length(list: &[u8], at: usize) -> usize
     ensures { at + 13 + result ≤ length list.now }
 {
     let n = number(list, at + 11);
-    let left = list.len() - at - HEAD;
-    if left < n {
-        return left;
-    }
-    n
+    n.min(list.len() - at - HEAD)
 }
 
 fn request_at(list: &[u8], at: usize) -> Request
@@ -118,22 +102,29 @@ fn request_at(list: &[u8], at: usize) -> Request
     }
 }
 
-fn found(s: &[u8], q: Request) -> Answer {
+fn found(s: &[u8], q: Request) -> Answered {
     let mut words = [0u32; 16512];
     answer(s, q, &mut words)
 }
 
+// An answer as it is listed: its kind, its value and its place, or in place of a place a report's words.
+fn numbers(a: Answered) -> (u64, u64, usize) {
+    match a {
+        Ok(Answer::No) => (0, 0, 0),
+        Ok(Answer::Yes(mask)) => (1, mask, 0),
+        Ok(Answer::Report(entries, words)) => (1, entries, words),
+        Err(Unanswered::Refused(number, place)) => (2, number, place),
+        Err(Unanswered::NotTried) => (3, 0, 0),
+    }
+}
+
 // Whether it is what is listed.
-fn is_listed(a: Answer, list: &[u8], at: usize) -> bool
+fn is_listed(a: Answered, list: &[u8], at: usize) -> bool
     requires { at + 13 ≤ length list.now }
 {
-    if a.kind != byte(list, at + 7) as u64 {
-        return false;
-    }
-    if a.value != byte(list, at + 8) as u64 {
-        return false;
-    }
-    a.place == number(list, at + 9)
+    let kind = byte(list, at + 7) as u64;
+    let value = byte(list, at + 8) as u64;
+    numbers(a) == (kind, value, number(list, at + 9))
 }
 
 // 1 where the trial agrees, with a sheet of n bytes; else it is printed.
@@ -150,16 +141,9 @@ fn agrees(rt: &impl Print, trial: u64, list: &[u8], at: usize, n: usize) -> io::
     Ok(0)
 }
 
-fn print_trial(rt: &impl Print, trial: u64, found: Answer) -> io::Result<()> {
-    print_number(rt, trial)?;
-    print_number(rt, found.kind)?;
-    print_number(rt, found.value)?;
-    print_number(rt, found.place as u64)?;
-    println!(rt; "disagrees")
-}
-
-fn print_number(rt: &impl Print, x: u64) -> io::Result<()> {
-    print!(rt; "{x} ")
+fn print_trial(rt: &impl Print, trial: u64, found: Answered) -> io::Result<()> {
+    let (kind, value, place) = numbers(found);
+    println!(rt; "{trial} {kind} {value} {place} disagrees")
 }
 
 // ---- all trials
@@ -174,14 +158,7 @@ fn try_all(rt: &impl Print, list: &[u8]) -> io::Result<()> {
         agreeing += agrees(rt, trials, list, at, n)?;
         at += HEAD + n;
     }
-    print_tally(rt, agreeing, trials)
-}
-
-fn print_tally(rt: &impl Print, agreeing: u64, trials: u64) -> io::Result<()> {
-    print_number(rt, agreeing)?;
-    print!(rt; "of ")?;
-    print_number(rt, trials)?;
-    println!(rt; "trials agree")
+    println!(rt; "{agreeing} of {trials} trials agree")
 }
 
 fn try_text(rt: &impl Print, text: &[u8], list: &mut [u8]) -> io::Result<()>

@@ -1,6 +1,6 @@
 -- AN EXPRESSION WHOSE LINKS GO ONE WAY IS WHAT IT WAS (02, Item 11): if at every link i j the part linked has no rules of label i, or no atoms of label j, then its
 -- tables, verdicts, plans and answer sets are those of directed links. Assumes nothing.
-use mathlib.Core.Path.{◌≡◌, refl, sym, ap, ap₂, ◌∙◌, subst}
+use mathlib.Core.Path.{◌≡◌, refl, sym, ap, ap₂, ◌∙◌}
 use mathlib.Core.Logic.{◌↔◌}
 use mathlib.Core.Bool.{Bool}
 use mathlib.Core.List.{List, [], ◌∷◌, ◌++◌, map}
@@ -9,10 +9,9 @@ use Rattle.lists.specs.Lists.{All}
 use Rattle.expression.specs.declared.Kind.{Kind}
 use Rattle.expression.specs.declared.Command.{Command}
 use Rattle.expression.specs.declared.Command.TheVariants.{Atom, Rule, Union, Relabel, Connect, Name}
-use Rattle.expression.specs.declared.Checked.TheVariants.{Passed, Refused}
 use Rattle.expression.specs.Commands.{Suits}
 use Rattle.expression.specs.Reading.{new_atoms, Placed, Reading, faulty, whole, reading}
-use Rattle.expression.specs.Checks.{Request, check}
+use Rattle.expression.specs.Checks.{Passed, Refused, Request, check}
 use Rattle.semantics.specs.Expressions.{Expr, connect, fold, unite_newest, change_newest, link, act, act_all, trees}
 use Rattle.semantics.specs.Programs.{atoms, rules, numbers, externals, relabel_atom, relabel_rule, connect_rule, labelled}
 use Rattle.semantics.specs.AnswerSets.{Interpretation, Assumptions, AnswerSet}
@@ -21,12 +20,12 @@ use Rattle.semantics.proofs.Interpretations.{Distinct}
 use Rattle.semantics.proofs.Stacks.{Fits, Chain, fits-act, chain-act}
 use Rattle.semantics.proofs.Readings.{commands_of, reading-sound}
 use Rattle.tables.specs.Algebras.{Algebra, tables, table}
-use Rattle.tables.specs.Definitions.{Pair, triples, pairs, plain_accepts, grounded_accepts}
+use Rattle.tables.specs.Definitions.{triples, pairs, plain_accepts, grounded_accepts}
 use Rattle.tables.proofs.Exactness.{exact-tables}
 use Rattle.decisions.specs.Decisions.{refused, assumed, commands_in, pairs_fault, plain_fault, Walked, stopped, walk, newest, conclude, decide, grounded, plain, first_tree, tree_of, expression_of}
 use Rattle.decisions.specs.First.{leaving, keeping, chosen, first_mask}
 use Rattle.decisions.specs.Outcomes.{with_mask, without_mask, grounded_outcome, plain_outcome}
-use Rattle.undirected.specs.Before.{NoRules, NoAtoms, OneWayOn, OneWay, OneWaySheet, act_before, act_all_before, walk_before, decide_before, grounded_before, plain_before, chosen_before, outcome_before, plain_outcome_before, expression_before}
+use Rattle.undirected.specs.Before.{OneWayOn, OneWay, OneWaySheet, act_before, act_all_before, walk_before, decide_before, grounded_before, plain_before, chosen_before, outcome_before, plain_outcome_before, expression_before}
 use Rattle.undirected.proofs.Programs.{Same, same-link, same-pairs, same-triples, same-answers}
 
 -- ---- tables

@@ -18,7 +18,7 @@ use Rattle.semantics.specs.Programs.{Atom, Rule, atoms, rules, numbers, external
 use Rattle.semantics.specs.AnswerSets.{Interpretation, Assumptions, Obeys, Smaller, AnswerSet, satisfies, reduct}
 use Rattle.semantics.proofs.Again.{extend-label}
 use Rattle.tables.specs.Algebras.{table}
-use Rattle.tables.specs.Definitions.{Pair, own_triple, subsets, triples, pairs}
+use Rattle.tables.specs.Definitions.{Pair, own_triple, triples, pairs}
 use Rattle.tables.specs.Exactness.{IsTriple, IsPair, ExactTables, some_in, some_out}
 use Rattle.undirected.specs.Before.{NoRules, NoAtoms}
 

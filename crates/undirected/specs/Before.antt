@@ -4,10 +4,9 @@ use Rattle.std.specs.Int.Bits.{bit_or}
 use Rattle.lists.specs.Lists.{All, run}
 use Rattle.expression.specs.declared.Command.{Command}
 use Rattle.expression.specs.declared.Command.TheVariants.{Atom, Rule, Union, Relabel, Connect, Name}
-use Rattle.expression.specs.declared.Checked.TheVariants.{Passed, Refused}
 use Rattle.expression.specs.declared.Outcome.{Outcome}
 use Rattle.expression.specs.Reading.{new_atoms, Placed, reading}
-use Rattle.expression.specs.Checks.{Request, check}
+use Rattle.expression.specs.Checks.{Passed, Refused, Request, check}
 use Rattle.semantics.specs.Expressions.{Expr, Operations, change_newest, act, trees}
 use Rattle.semantics.specs.Programs.{atoms, rules, numbers}
 use Rattle.tables.specs.Algebras.{Algebra, tables}

@@ -70,8 +70,7 @@ pub fn unite_with_all(
 {
     let k = entries::words_of(carry, p);
     let mut r = m;
-    let mut j = 0;
-    while j < n {
+    for j in 0..n {
         let rb = b + j * w;
         let vb = entries::value_at(&vals[right..right + k], carry, n, j);
         let v = entries::together(carry, va, vb);
@@ -92,7 +91,6 @@ pub fn unite_with_all(
         if p + 1 < r {
             return r;
         }
-        j += 1;
     }
     r
 }
@@ -125,8 +123,7 @@ pub fn unite_all(
 {
     let k = entries::words_of(carry, p);
     let mut r = 0;
-    let mut i = 0;
-    while i < na {
+    for i in 0..na {
         let ra = a + i * w;
         let va = entries::value_at(&vals[left..left + k], carry, na, i);
         r = unite_with_all(
@@ -135,7 +132,6 @@ pub fn unite_all(
         if r > p + 1 {
             return r;
         }
-        i += 1;
     }
     r
 }

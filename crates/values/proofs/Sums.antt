@@ -6,8 +6,8 @@ use mathlib.Core.List.Memᴰ
 use mathlib.Core.List.{List, [], ◌∷◌, ◌++◌, map, Memᴰ}
 use Prim.Native.Nat.{ℕ}
 use native.Mathlib.Omega.{arith}
-use Rattle.lists.specs.declared.Order.{Order}
-use Rattle.lists.specs.declared.Order.TheVariants.{Less, Same, More}
+use Rattle.std.specs.declared.cmp.Ordering.{Ordering}
+use Rattle.std.specs.declared.cmp.Ordering.TheVariants.{Less, Equal, Greater}
 use Rattle.lists.specs.Lists.{All, products}
 use Rattle.lists.specs.Sorted.{by_order, insert, insert_all, canon, Rising}
 use Rattle.lists.proofs.Members.{all-at}
@@ -49,11 +49,11 @@ module _ {X W : Type 0} (A : Algebra X) (O : Lawful A.order A.merge) (R : Values
           ∙ add_assoc L (multiply R (worth x.value) (φ y.item)) (term φ y) S
           ∙ ap (λ z. add R (multiply R (worth x.value) (φ z)) (add R (term φ y) S)) (sym e)
 
-      step : (o : Order) → A.order x.item y.item ≡ o → sum_by R φ (insert A'.order A'.merge x ys) ≡ add R (term φ x) S
+      step : (o : Ordering) → A.order x.item y.item ≡ o → sum_by R φ (insert A'.order A'.merge x ys) ≡ add R (term φ x) S
           → sum_by R φ (by_order o (x ∷ y ∷ ys) (A'.merge x y ∷ ys) (y ∷ insert A'.order A'.merge x ys)) ≡ add R (term φ x) (add R (term φ y) S)
       step Less e h = refl
-      step Same e h = merged (O.same x.item y.item e)
-      step More e h = ap (add R (term φ y)) h ∙ add_turn L (term φ y) (term φ x) S
+      step Equal e h = merged (O.same x.item y.item e)
+      step Greater e h = ap (add R (term φ y)) h ∙ add_turn L (term φ y) (term φ x) S
 
   sum-insert_all : (φ : X → Total W) (xs acc : List Entry) → sum_by R φ (insert_all A'.order A'.merge xs acc) ≡ add R (sum_by R φ xs) (sum_by R φ acc)
   unfolding insert_all sum_by
@@ -126,16 +126,16 @@ module _ {X W : Type 0} (A : Algebra X) (O : Lawful A.order A.merge) (R : Values
   unfoldable pub at : X → X → Total W
   at x y = by_order (A.order x y) none (worth R.unit) none
 
-  at_other : {x y : X} → (A.order x y ≡ Same → ⊥) → at x y ≡ none
+  at_other : {x y : X} → (A.order x y ≡ Equal → ⊥) → at x y ≡ none
   unfolding at
   at_other {x} {y} h = step (A.order x y) refl
     where
-      step : (o : Order) → A.order x y ≡ o → by_order o none (worth R.unit) none ≡ none
+      step : (o : Ordering) → A.order x y ≡ o → by_order o none (worth R.unit) none ≡ none
       step Less e = refl
-      step Same e = absurd (h e)
-      step More e = refl
+      step Equal e = absurd (h e)
+      step Greater e = refl
 
-  before : {x y : X} → A.order x y ≡ Less → (A.order x y ≡ Same → ⊥) × (A.order y x ≡ Same → ⊥)
+  before : {x y : X} → A.order x y ≡ Less → (A.order x y ≡ Equal → ⊥) × (A.order y x ≡ Equal → ⊥)
   before {x} {y} h = (λ e. let z : ◌≡◌ {A = ℕ} 0 1 = cc in omega arith, λ e. let z : ◌≡◌ {A = ℕ} 0 1 = cc (O.self x, ap (A.order x) (O.same y x e)) in omega arith)
 
   others : (x : X) (l : List Entry) → All (λ y. A.order x y ≡ Less) (items l) → sum_by R (at x) l ≡ none

@@ -6,8 +6,8 @@ use Prim.Native.Nat.{ℕ, ◌+◌, ◌^◌, ◌≤◌, ◌<◌}
 use native.Mathlib.Nat.{mod-eq_of_lt, lt_of_lt_of_le}
 use native.Mathlib.Omega.{arith}
 use lib.Pow.{pow_mono}
-use Rattle.lists.specs.declared.Order.{Order}
-use Rattle.lists.specs.declared.Order.TheVariants.{Less, Same, More}
+use Rattle.std.specs.declared.cmp.Ordering.{Ordering}
+use Rattle.std.specs.declared.cmp.Ordering.TheVariants.{Less, Equal, Greater}
 use Rattle.lists.specs.Lists.{All, products, run}
 use Rattle.lists.specs.Sorted.{by_order, insert, insert_all, canon}
 use Rattle.lists.proofs.Members.{all-at, all_of, all_map, products-is, products-map}
@@ -23,16 +23,16 @@ use Rattle.values.proofs.First.{least-semiring, value-lt}
 
 -- ---- what merging keeps
 
-module _ {X : Type 0} (cmp : X → X → Order) (merge : X → X → X) (P : X → Type 0) (merged : (x y : X) → P x → P y → P (merge x y)) where
+module _ {X : Type 0} (cmp : X → X → Ordering) (merge : X → X → X) (P : X → Type 0) (merged : (x y : X) → P x → P y → P (merge x y)) where
   all_insert : (x : X) (xs : List X) → P x → All P xs → All P (insert cmp merge x xs)
   unfolding insert
   all_insert x [] h k = (h, tt)
   all_insert x (y ∷ ys) h k = step (cmp x y) (all_insert x ys h k.1)
     where
-      step : (o : Order) → All P (insert cmp merge x ys) → All P (by_order o (x ∷ y ∷ ys) (merge x y ∷ ys) (y ∷ insert cmp merge x ys))
+      step : (o : Ordering) → All P (insert cmp merge x ys) → All P (by_order o (x ∷ y ∷ ys) (merge x y ∷ ys) (y ∷ insert cmp merge x ys))
       step Less r = (h, k)
-      step Same r = (merged x y h k.0, k.1)
-      step More r = (k.0, r)
+      step Equal r = (merged x y h k.0, k.1)
+      step Greater r = (k.0, r)
 
   all-insert_all : (xs acc : List X) → All P xs → All P acc → All P (insert_all cmp merge xs acc)
   unfolding insert_all

@@ -6,80 +6,45 @@
 ghost use Rattle.std.specs.Prelude.{◌≤◌};
 
 use calls::grounded;
-use expression::Outcome;
-use generator::{ROOM, drawn, lent, limit, next_seed, pins, room, sheet};
+use expression::refusals::Refusal;
+use generator::{ROOM, drawn, lent, next_seed, room, sheet};
 use oracle::answering::answer;
 use oracle::checking::need_of;
 use oracle::naming::name;
-use oracle::{Answer, NO, NOT_TRIED, REFUSED, YES, answered, is_same};
+use oracle::{Answer, Answered, Unanswered};
 use oracle_tables::Request;
-use outcomes::{kind, place, value};
 use plain_calls::plain;
 use report_calls::{plain_report, report};
-use reporting::Report;
+use reporting::Written;
 use std::io;
-use tallies::{count, print_counts, print_disagreement, print_number};
+use tallies::{decision, held, print_counts, print_number, refused, terms};
 
 // ---- the engine's answers in the oracle's form
 
-fn decision_answer(o: Outcome) -> Answer {
-    answered(kind(o), value(o), place(o) as usize)
-}
-
-fn report_answer(r: Report) -> Answer {
+fn report_answer(r: Result<Written, Refusal>) -> Answered {
     match r {
-        Report::Written(entries, words) => answered(YES, entries, words as usize),
-        Report::Refused(number, at) => answered(REFUSED, number, at),
+        Ok(w) => Ok(Answer::Report(w.entries, w.words as usize)),
+        Err(e) => Err(refused(e)),
     }
 }
 
-fn engine_decision(s: &[u8], q: Request, ws: &mut [u32]) -> Answer {
-    if q.is_plain {
-        return decision_answer(plain(
-            s,
-            q.pair_limit,
-            q.subset_limit,
-            q.assumed_true,
-            q.assumed_false,
-            ws,
-        ));
-    }
-    decision_answer(grounded(
-        s,
-        q.pair_limit,
-        q.subset_limit,
-        q.assumed_true,
-        q.assumed_false,
-        ws,
-    ))
+fn engine_decision(s: &[u8], q: Request, ws: &mut [u32]) -> Answered {
+    decision(if q.is_plain {
+        plain(s, terms(q), ws)
+    } else {
+        grounded(s, terms(q), ws)
+    })
 }
 
-fn engine_report(s: &[u8], q: Request, ws: &mut [u32], out: &mut [u32]) -> Answer {
-    if q.is_plain {
-        return report_answer(plain_report(
-            s,
-            q.asked,
-            q.pair_limit,
-            q.subset_limit,
-            q.assumed_true,
-            q.assumed_false,
-            ws,
-            out,
-        ));
-    }
-    report_answer(report(
-        s,
-        q.asked,
-        q.pair_limit,
-        q.subset_limit,
-        q.assumed_true,
-        q.assumed_false,
-        ws,
-        out,
-    ))
+fn engine_report(s: &[u8], q: Request, ws: &mut [u32], out: &mut [u32]) -> Answered {
+    report_answer(if q.is_plain {
+        plain_report(s, q.asked, terms(q), ws, out)
+    } else {
+        report(s, q.asked, terms(q), ws, out)
+    })
 }
 
-fn engine_answer(s: &[u8], q: Request, ws: &mut [u32], out: &mut [u32]) -> Answer {
+fn engine_answer(s: &[u8], q: Request, ws: &mut [u32], out: &mut [u32]) -> Answered {
     if q.is_report {
         return engine_report(s, q, ws, out);
     }
@@ -91,83 +56,52 @@ fn engine_answer(s: &[u8], q: Request, ws: &mut [u32], out: &mut [u32]) -> Answe
 // What stands in lent words before a call.
 const MARK: u32 = 0xa5a5a5a5;
 
-// What is to stand at place k after it: in the first n places the words given, which count modulo their number, then what stood there.
-fn left_at(words: &[u32; 16512], k: usize, n: usize) -> u32 {
-    if k < n {
-        return words[k % 16512];
-    }
-    MARK
+fn is_marked(lent: &[u32]) -> bool {
+    lent.iter().all(|x| *x == MARK)
 }
 
-fn is_left(lent: &[u32], words: &[u32; 16512], n: usize) -> bool {
-    let mut k: usize = 0;
-    while k < lent.len() {
-        if lent[k] != left_at(words, k, n) {
-            return false;
-        }
-        k += 1;
-    }
-    true
-}
-
-// Whether zeros stand in the first n places.
+// Whether zeros stand in the first n places after it, and in the others what stood there.
 fn has_zeros(lent: &[u32], n: usize) -> bool {
-    let zeros = [0u32; 16512];
-    is_left(lent, &zeros, n)
+    let (zeroed, rest) = lent.split_at(n.min(lent.len()));
+    zeroed.iter().all(|x| *x == 0) && is_marked(rest)
+}
+
+// Whether the first n of the words given stand in the first places, and in the others what stood there.
+fn has_words(lent: &[u32; BUFFER_ROOM], words: &[u32; 16512], n: usize) -> bool {
+    let n = n.min(BUFFER_ROOM);
+    lent[..n] == words[..n] && is_marked(&lent[n..])
 }
 
 // How many words of the workspace a call zeroes: none with 1 to 14.
-fn cleared(s: &[u8], q: Request, a: Answer) -> usize {
-    if a.kind == REFUSED {
-        if a.value < 15 {
-            return 0;
-        }
+fn cleared(s: &[u8], q: Request, a: Answered) -> usize {
+    match a {
+        Err(Unanswered::Refused(number, _)) if number < 15 => 0,
+        _ => need_of(s, q),
     }
-    need_of(s, q)
 }
 
-// How many words of the buffer it writes: none with a refusal.
-fn written(a: Answer, q: Request) -> usize {
-    if !q.is_report {
-        return 0;
+// How many words of the buffer it writes: those of a report that is not refused.
+fn written(a: Answered) -> usize {
+    match a {
+        Ok(Answer::Report(_, words)) => words,
+        _ => 0,
     }
-    if a.kind == REFUSED {
-        return 0;
-    }
-    a.place
 }
 
-// ---- what a trial says: the number of a refusal that is agreed on, or one of these
+// ---- what a trial says: the answer that is agreed on, or one of these
 
-const AGREED: u64 = 20;
-
-const AGREED_TABLE: u64 = 22;
-
-// Disagreements.
-const OUTCOME: u64 = 32;
-
-const WORKSPACE: u64 = 33;
-
-const BUFFER: u64 = 34;
-
-const NAME: u64 = 35;
-
-// AGREED with the kind added, if it is no refusal.
-fn agreed(a: Answer, q: Request) -> u64 {
-    if a.kind == REFUSED {
-        return a.value;
-    }
-    if q.is_report {
-        return AGREED_TABLE;
-    }
-    AGREED + a.kind % 4
+#[derive(Clone, Copy, PartialEq, Eq)]
+enum Disagreement {
+    Outcome = 32,
+    Workspace = 33,
+    Buffer = 34,
+    Name = 35,
 }
 
-fn judged(q: Request, found: Answer, expected: Answer) -> u64 {
-    if is_same(found, expected) {
-        return agreed(found, q);
+impl From<Disagreement> for u64 {
+    fn from(d: Disagreement) -> u64 {
+        d as u64
     }
-    OUTCOME
 }
 
 // ---- trials; the words lent are made for each, marked
@@ -180,32 +114,34 @@ fn compared(
     s: &[u8],
     q: Request,
     words: &[u32; 16512],
-    expected: Answer,
-    ws: &mut [u32],
-    out: &mut [u32],
-) -> u64 {
+    expected: Answered,
+    ws: &mut [u32; ROOM],
+    out: &mut [u32; BUFFER_ROOM],
+) -> Result<Answered, Disagreement> {
     let n = lent(q.room, ws.len());
     let found = engine_answer(s, q, &mut ws[..n], out);
-    if !has_zeros(ws, cleared(s, q, found)) {
-        return WORKSPACE;
-    }
-    if !is_left(out, words, written(found, q)) {
-        return BUFFER;
-    }
-    judged(q, found, expected)
+    held(has_zeros(ws, cleared(s, q, found)), Disagreement::Workspace)?;
+    held(has_words(out, words, written(found)), Disagreement::Buffer)?;
+    held(found == expected, Disagreement::Outcome)?;
+    Ok(found)
 }
 
-fn try_lent(s: &[u8], q: Request, words: &[u32; 16512], expected: Answer) -> u64 {
+fn try_lent(
+    s: &[u8],
+    q: Request,
+    words: &[u32; 16512],
+    expected: Answered,
+) -> Result<Answered, Disagreement> {
     let mut ws = [MARK; ROOM];
     let mut out = [MARK; BUFFER_ROOM];
     compared(s, q, words, expected, &mut ws, &mut out)
 }
 
-fn try_request(s: &[u8], q: Request) -> u64 {
+fn try_request(s: &[u8], q: Request) -> Result<Answered, Disagreement> {
     let mut words = [0u32; 16512];
     let expected = answer(s, q, &mut words);
-    if expected.kind == NOT_TRIED {
-        return AGREED + NOT_TRIED;
+    if expected == Err(Unanswered::NotTried) {
+        return Ok(expected);
     }
     try_lent(s, q, &words, expected)
 }
@@ -223,11 +159,12 @@ fn listed(s: &[u8], pins_in: u64, pins_out: u64, number: u64, place: usize) -> u
 fn roomed(s: &[u8], room: u64, pins_in: u64, pins_out: u64, number: u64, place: usize) -> u64
     ensures { result ≤ 1 }
 {
-    told(s, room, pins_in, pins_out, answered(REFUSED, number, place))
+    let refused = Err(Unanswered::Refused(number, place));
+    told(s, room, pins_in, pins_out, refused)
 }
 
 // 1 where both answer so in a room.
-fn told(s: &[u8], room: u64, pins_in: u64, pins_out: u64, expected: Answer) -> u64
+fn told(s: &[u8], room: u64, pins_in: u64, pins_out: u64, expected: Answered) -> u64
     ensures { result ≤ 1 }
 {
     let q = Request {
@@ -241,14 +178,7 @@ fn told(s: &[u8], room: u64, pins_in: u64, pins_out: u64, expected: Answer) -> u
         asked: 0,
         buffer: 0,
     };
-    let mut words = [0u32; 16512];
-    if !is_same(answer(s, q, &mut words), expected) {
-        return 0;
-    }
-    if try_request(s, q) != agreed(expected, q) {
-        return 0;
-    }
-    1
+    u64::from(try_request(s, q) == Ok(expected))
 }
 
 fn try_listed(rt: &impl Print) -> io::Result<()> {
@@ -286,55 +216,33 @@ fn try_rooms(rt: &impl Print) -> io::Result<()> {
 // Whether the oracle calls a copy the same, by its offset and by its bytes.
 fn has_name(s: &[u8], copy: u64) -> bool {
     let expected = name(s, copy);
-    if !is_same(decision_answer(names::name_outcome(s, copy)), expected) {
-        return false;
-    }
-    has_bytes(s, names::name_bytes(s, copy), expected)
+    decision(names::name_outcome(s, copy)) == expected
+        && has_bytes(s, names::name_bytes(s, copy), expected)
 }
 
-fn has_bytes(s: &[u8], bytes: &[u8], expected: Answer) -> bool {
-    if expected.kind != YES {
-        return bytes.len() == 0;
+fn has_bytes(s: &[u8], bytes: &[u8], expected: Answered) -> bool {
+    match expected {
+        Ok(Answer::Yes(at)) => bytes.len() == 16 && stands_at(s, at as usize, bytes),
+        _ => bytes.is_empty(),
     }
-    bytes.len() == 16 && starts_with(s, (expected.value % 4096) as usize, bytes)
 }
 
-// Whether bytes stand at an offset.
-fn starts_with(s: &[u8], at: usize, bytes: &[u8]) -> bool
-    requires { at ≤ 4096 }
-{
-    let mut k: usize = 0;
-    while k < bytes.len() {
-        if k > 4096 || s.len() <= at + k {
-            return false;
-        }
-        if s[at + k] != bytes[k] {
-            return false;
-        }
-        k += 1;
-    }
-    true
+fn stands_at(s: &[u8], at: usize, bytes: &[u8]) -> bool {
+    at <= s.len() && s[at..].starts_with(bytes)
 }
 
 // Of each copy that a random sheet has, and of one more.
 fn has_names(s: &[u8]) -> bool {
-    let mut copy: u64 = 0;
-    while copy < 8 {
-        if !has_name(s, copy) {
-            return false;
-        }
-        copy += 1;
-    }
-    true
+    (0..8).all(|copy| has_name(s, copy))
 }
 
 // Two copies joined: the second is the newest, whose first name is replaced; a rule's name is no copy's; the bytes of a name are no commands.
 fn try_names(rt: &impl Print) -> io::Result<()> {
     let two =
         b"\x11\x00\x11\x00\x21\x51\x21\x21\x21\x21\x21\x21\x21\x21\x21\x21\x21\x21\x21\x21\x21\x21\x51archive of 2026 \x12\x01\x51rule of archives\x21";
-    let a = named(two, 0, 0, 0);
-    let b = named(two, 1, 1, 23);
-    let c = named(two, 2, 0, 0);
+    let a = named(two, 0, Answer::No);
+    let b = named(two, 1, Answer::Yes(23));
+    let c = named(two, 2, Answer::No);
     let d = listed(
         b"\x51\x00\x00\x00\x00\x00\x00\x00\x00\x00\x00\x00\x00\x00\x00\x00\x00",
         0,
@@ -354,37 +262,31 @@ fn try_names(rt: &impl Print) -> io::Result<()> {
 }
 
 // 1 where both call a copy as listed.
-fn named(s: &[u8], copy: u64, kind: u64, value: u64) -> u64
+fn named(s: &[u8], copy: u64, expected: Answer) -> u64
     ensures { result ≤ 1 }
 {
-    if !is_same(name(s, copy), answered(kind, value, 0)) {
-        return 0;
-    }
-    if !has_name(s, copy) {
-        return 0;
-    }
-    1
+    u64::from(name(s, copy) == Ok(expected) && has_name(s, copy))
 }
 
 // ---- links (02, Item 11)
 
 // 1 where both decide as listed.
-fn decided(s: &[u8], kind: u64, value: u64) -> u64
+fn decided(s: &[u8], expected: Answer) -> u64
     ensures { result ≤ 1 }
 {
-    told(s, ROOM as u64, 0, 0, answered(kind, value, 0))
+    told(s, ROOM as u64, 0, 0, Ok(expected))
 }
 
 // The rule in the first group named and the copy in the second: of each kind, and with a granted copy. Then a copy and a rule in both, either way round.
 fn try_links(rt: &impl Print) -> io::Result<()> {
-    let a = decided(b"\x12\x00\x11\x01\x21\x41\x00\x01", YES, 1);
-    let b = decided(b"\x12\x00\x11\x01\x21\x42\x00\x01", YES, 0);
-    let c = decided(b"\x12\x00\x11\x01\x21\x43\x00\x01", NO, 0);
-    let d = decided(b"\x12\x00\x13\x01\x21\x43\x00\x01", YES, 1);
+    let a = decided(b"\x12\x00\x11\x01\x21\x41\x00\x01", Answer::Yes(1));
+    let b = decided(b"\x12\x00\x11\x01\x21\x42\x00\x01", Answer::Yes(0));
+    let c = decided(b"\x12\x00\x11\x01\x21\x43\x00\x01", Answer::No);
+    let d = decided(b"\x12\x00\x13\x01\x21\x43\x00\x01", Answer::Yes(1));
     let both = b"\x11\x00\x12\x00\x21\x11\x01\x21\x12\x01\x21\x41\x00\x01";
     let turned = b"\x11\x00\x12\x00\x21\x11\x01\x21\x12\x01\x21\x41\x01\x00";
-    let e = decided(both, YES, 3);
-    let f = decided(turned, YES, 3);
+    let e = decided(both, Answer::Yes(3));
+    let f = decided(turned, Answer::Yes(3));
     print_number(rt, a + b + c + d + e + f)?;
     println!(rt; "of 6 links")
 }
@@ -418,10 +320,8 @@ fn joined_byte(leaf: u8, k: usize) -> u8 {
 }
 
 fn put_leaves(leaf: u8, bytes: &mut [u8]) {
-    let mut k: usize = 0;
-    while k < bytes.len() {
-        bytes[k] = leaf_byte(leaf, k);
-        k += 1;
+    for (k, byte) in bytes.iter_mut().enumerate() {
+        *byte = leaf_byte(leaf, k);
     }
 }
 
@@ -454,48 +354,24 @@ fn try_large(rt: &impl Print) -> io::Result<()> {
 const TRIALS: u64 = 40000;
 
 fn request(seed: u64) -> Request {
-    let x = drawn(seed);
-    let more = next_seed(seed);
     let last = drawn(next_seed(seed / 3));
     Request {
-        pair_limit: limit(x),
-        subset_limit: limit(x / 4096),
-        room: ROOM as u64,
-        assumed_true: pins(more),
-        assumed_false: pins(next_seed(more)),
         is_plain: last % 2 == 1,
         is_report: last % 8 > 2,
         asked: (last / 8 % 128) as usize,
         buffer: BUFFER_ROOM as u64,
+        ..generator::request(seed)
     }
 }
 
-fn try_seed(seed: u64) -> u64 {
+fn try_seed(seed: u64) -> Result<Answered, Disagreement> {
     let mut bytes = [0u8; 768];
     let more = next_seed(seed / 5);
     let n = sheet(drawn(more), seed, &mut bytes);
     let mut q = request(more);
     q.room = room(drawn(next_seed(more / 7)), need_of(&bytes[..n], q));
-    if !has_names(&bytes[..n]) {
-        return NAME;
-    }
+    held(has_names(&bytes[..n]), Disagreement::Name)?;
     try_request(&bytes[..n], q)
-}
-
-// Up to the first disagreement, which is printed: its seed and its kind.
-fn try_seeds(rt: &impl Print, n: u64, counts: &mut [u64; 64]) -> io::Result<()> {
-    let mut seed: u64 = 1;
-    let mut k: u64 = 0;
-    while k < n {
-        seed = next_seed(seed);
-        let answer = try_seed(seed);
-        if answer >= OUTCOME {
-            return print_disagreement(rt, seed, answer);
-        }
-        count(counts, answer);
-        k += 1;
-    }
-    Ok(())
 }
 
 fn print_all(rt: &impl Print, counts: &[u64; 64]) -> io::Result<()> {
@@ -513,6 +389,6 @@ fn main(rt: HostRuntime) -> io::Result<()> {
     try_names(&rt)?;
     try_links(&rt)?;
     try_large(&rt)?;
-    try_seeds(&rt, TRIALS, &mut counts)?;
+    tallies::try_seeds(&rt, TRIALS, &mut counts, try_seed)?;
     print_all(&rt, &counts)
 }

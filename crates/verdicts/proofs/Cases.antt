@@ -1,13 +1,13 @@
 -- What the verdict is, by what the checks and the test of the record find. Over K labels. Assumes nothing.
+use Rattle.std.specs.Prelude.{Some, None}
 use mathlib.Core.Path.{◌≡◌, refl}
 use mathlib.Core.Bool.{cond}
 use mathlib.Core.List.{List}
 use Prim.Native.Nat.{ℕ}
 use lib.ListN.{length}
 use borrow.Author.Tests.{eq-eqb, ne_eqb}
-use Rattle.expression.specs.declared.Checked.TheVariants as checked
+use Rattle.expression.specs.Checks as checked
 use Rattle.expression.specs.declared.Counts.{Counts}
-use Rattle.expression.specs.declared.Located.TheVariants.{Before, Nowhere}
 use Rattle.expression.specs.declared.Outcome.TheVariants as outcome
 use Rattle.expression.specs.Refusals.{bad_record}
 use Rattle.expression.specs.Checks.{Request, check}
@@ -23,11 +23,11 @@ module _ (K : ℕ) (a : Request) (r : Record) (ws : List ℕ) where
   verdict-refused h = rw (h, verdict)
 
   module _ {z : Counts} (h : check K a ≡ checked.Passed z) where
-    pub verdict-unformed : formed_at K a r ws ≡ Nowhere → verdict K a r ws ≡ outcome.Refused bad_record r.place
+    pub verdict-unformed : formed_at K a r ws ≡ None → verdict K a r ws ≡ outcome.Refused bad_record r.place
     unfolding verdict
     verdict-unformed e = rw (h, verdict, e)
 
-    pub verdict-formed : {n : Counts} → formed_at K a r ws ≡ Before n → verdict K a r ws ≡ conclusion K a r ws
+    pub verdict-formed : {n : Counts} → formed_at K a r ws ≡ Some n → verdict K a r ws ≡ conclusion K a r ws
     unfolding verdict
     verdict-formed e = rw (h, verdict, e)
 

@@ -1,4 +1,6 @@
 -- The verdict of a record that has come to the end: its one table is the first of the workspace. Assumes nothing.
+use Rattle.std.specs.Prelude.{Option, Some, None, Ok}
+use Rattle.std.specs.Option.{option_and}
 use mathlib.Core.Path.{◌≡◌, refl, sym, ap, ◌∙◌}
 use mathlib.Core.Bool.{Bool, true, false, cond}
 use mathlib.Core.List.{List, [], map}
@@ -7,11 +9,10 @@ use native.Mathlib.Omega.{arith}
 use lib.ListN.{length, drop, get_or}
 use Rattle.labels.specs.Labels.{label_count}
 use Rattle.expression.specs.declared.Counts.{Counts}
-use Rattle.expression.specs.declared.Checked.TheVariants.{Passed}
-use Rattle.expression.specs.declared.Located.TheVariants.{Before}
 use Rattle.expression.specs.declared.Outcome.TheVariants.{Yes, No}
+use Rattle.expression.specs.Told.{outcome_of}
 use Rattle.expression.specs.Limits.{depth_limit, row_words, areas_for}
-use Rattle.expression.specs.Checks.{Request, check, depth_of, need_of}
+use Rattle.expression.specs.Checks.{Passed, Request, check, depth_of, need_of}
 use Rattle.expression.proofs.Accepted.{check-accepted}
 use Rattle.expression.proofs.Remaining.{remains-end}
 use Rattle.tables.specs.Definitions.{accepting, grounded_accepts}
@@ -23,8 +24,6 @@ use Rattle.entries.specs.Carries.{Entry}
 use Rattle.making.specs.Making.{entries_at}
 use Rattle.workspace.specs.Workspace.{pairs_of}
 use Rattle.stacks.specs.Stacks.{count_below}
-use Rattle.answers.specs.declared.Found.{Found}
-use Rattle.answers.specs.declared.Found.TheVariants.{None, Least}
 use Rattle.answers.specs.Answers.{least_of, total_of}
 use Rattle.answers.proofs.Accepting.{none-denies, worth-affirms}
 use Rattle.advances.specs.Advances.{Stands}
@@ -39,7 +38,7 @@ use Rattle.record_tests.proofs.Forming.{here, deep, long, bare-many, stands}
 only-count : (t : ℕ) (counts : List ℕ) → t ≡ 1 → get_or counts 0 0 ≡ count_below t 1 counts
 only-count t counts e = rw e
 
-module _ (a : Request) (r : Record) (ws : List ℕ) {z n : Counts} (passed : check label_count a ≡ Passed z) (formed : formed_at label_count a r ws ≡ Before n) (room : a.room ≡ length ws)
+module _ (a : Request) (r : Record) (ws : List ℕ) {z n : Counts} (passed : check label_count a ≡ Passed z) (formed : formed_at label_count a r ws ≡ Some n) (room : a.room ≡ length ws)
     (eight : length r.counts ≡ depth_limit) (end : r.place ≡ length a.bytes) where
   abbrev w : ℕ
   w = row_words a.subset_limit
@@ -75,7 +74,7 @@ module _ (a : Request) (r : Record) (ws : List ℕ) {z n : Counts} (passed : che
   first-pairs = sym (newest-pairs us) ∙ ap newest (bare-tables (found label_count a r ws))
 
   -- what is found in it
-  module _ (x : Found) (e : total_of x ≡ least_of (accepting label_count) (entries_at Nothing w p 0 first [] ws)) where
+  module _ (x : Option ℕ) (e : total_of x ≡ least_of (accepting label_count) (entries_at Nothing w p 0 first [] ws)) where
     least : least_of (accepting label_count) (newest us) ≡ total_of x
     least = ap (least_of (accepting label_count)) (sym first-entries) ∙ sym e
 
@@ -85,5 +84,10 @@ module _ (a : Request) (r : Record) (ws : List ℕ) {z n : Counts} (passed : che
     pub concludes-no : x ≡ None → conclusion label_count a r ws ≡ No
     concludes-no f = by false (none-denies label_count (newest us) (least ∙ ap total_of f))
 
-    pub concludes-yes : (v : ℕ) → x ≡ Least v → conclusion label_count a r ws ≡ Yes 0
+    pub concludes-yes : (v : ℕ) → x ≡ Some v → conclusion label_count a r ws ≡ Yes 0
     concludes-yes v f = by true (worth-affirms label_count (newest us) v (least ∙ ap total_of f))
+
+  -- told without the value
+  pub concludes : (x : Option ℕ) → total_of x ≡ least_of (accepting label_count) (entries_at Nothing w p 0 first [] ws) → outcome_of (Ok (option_and x (Some 0))) ≡ conclusion label_count a r ws
+  concludes None e = sym (concludes-no None e refl)
+  concludes (Some v) e = sym (concludes-yes (Some v) e v refl)

@@ -6,19 +6,18 @@
 ghost use Rattle.std.specs.Prelude.{◌≤◌};
 
 use expression::Outcome;
-use expression::refusals::BAD_RECORD;
-use generator::{ROOM, drawn, lent, limit, next_seed, pins, room, sheet};
+use expression::refusals::{Reason, Refusal};
+use generator::{ROOM, drawn, lent, next_seed, request, room, sheet};
 use oracle::answering::{answer, table_answer};
-use oracle::checking::{LARGE, area, check, need_of};
-use oracle::{Answer, REFUSED, answered, is_same};
+use oracle::checking::{area, check, need_of};
+use oracle::{Answer, Answered, Unanswered};
 use oracle_tables::Request;
 use oracle_tables::tabulating::write_table;
-use outcomes::{kind, place, value};
 use policies::{Policy, no_policy};
 use records::{Progress, Record, Stepped};
 use starts::start;
-use std::io;
-use tallies::{count, print_counts, print_disagreement};
+use std::{io, mem};
+use tallies::{decision, held, print_counts, refused, terms};
 use verdicts::verdict;
 
 // ---- what should be there: the record, and a model of the workspace, whose places count modulo their number
@@ -30,10 +29,8 @@ const MARK: u32 = 0xa5a5a5a5;
 const NO_TRIPLE: u32 = 1 << (3 * labels::LABELS as u32);
 
 fn clear(model: &mut [u32; 20000], from: usize, end: usize) {
-    let mut k = from;
-    while k < end {
+    for k in from..end {
         model[k % 20000] = 0;
-        k += 1;
     }
 }
 
@@ -41,10 +38,8 @@ fn clear(model: &mut [u32; 20000], from: usize, end: usize) {
 fn put_row(model: &mut [u32; 20000], to: usize, words: &[u32; 16512], at: usize, n: usize)
     requires { (to ≤ 20000) × (at ≤ 16512) × (n ≤ 8192) }
 {
-    let mut k: usize = 0;
-    while k < n {
+    for k in 0..n {
         model[(to + k) % 20000] = words[(at + k) % 16512];
-        k += 1;
     }
 }
 
@@ -53,11 +48,7 @@ fn pair_words(words: &[u32; 16512], at: usize) -> usize
     requires { at ≤ 16512 }
     ensures { result ≤ 8192 }
 {
-    2 + wide(words[(at + 1) % 16512]) % 4096
-}
-
-fn wide(x: u32) -> usize {
-    x as usize
+    2 + words[(at + 1) % 16512] as usize % 4096
 }
 
 // The pairs of a report in rows of a table, of so many words each.
@@ -66,13 +57,11 @@ fn put_rows(model: &mut [u32; 20000], from: usize, width: usize, words: &[u32; 1
 {
     let mut to = from;
     let mut at: usize = 0;
-    let mut k: u64 = 0;
-    while k < entries {
+    for _ in 0..entries {
         let n = pair_words(words, at);
         put_row(model, to, words, at, n);
         to = (to + width) % 20000;
         at = (at + n) % 16512;
-        k += 1;
     }
 }
 
@@ -136,63 +125,21 @@ fn moved(r: Record, p: Policy, entries: u64) -> Record {
 
 // ---- what is there
 
-fn has_counts(counts: &[u64; 8], expected: &[u64; 8]) -> bool {
-    let mut k: usize = 0;
-    while k < 8 {
-        if counts[k] != expected[k] {
-            return false;
-        }
-        k += 1;
-    }
-    true
-}
-
-fn is_record(r: Record, expected: Record) -> bool {
-    if r.place != expected.place {
-        return false;
-    }
-    if r.tables != expected.tables {
-        return false;
-    }
-    let a = r.counts;
-    let b = expected.counts;
-    has_counts(&a, &b)
-}
-
-fn has_words(ws: &[u32], model: &[u32; 20000]) -> bool {
-    let mut k: usize = 0;
-    while k < ws.len() {
-        if ws[k] != model[k % 20000] {
-            return false;
-        }
-        k += 1;
-    }
-    true
-}
-
-// Kinds of answers beside those of the oracle.
-const MOVED: u64 = 4;
-
-const ENDED: u64 = 5;
-
-fn told(x: Progress) -> Answer {
+fn told(x: Result<Progress, Refusal>) -> Result<Progress, Unanswered> {
     match x {
-        Progress::Moved => answered(MOVED, 0, 0),
-        Progress::Ended => answered(ENDED, 0, 0),
-        Progress::Refused(number, at) => answered(REFUSED, number, at),
+        Ok(p) => Ok(p),
+        Err(e) => Err(refused(e)),
     }
 }
 
-fn is_stepped(x: Stepped, r: Record, a: Answer, ws: &[u32], model: &[u32; 20000]) -> bool {
-    let state = x.state;
-    let progress = x.progress;
-    if !is_same(told(progress), a) {
-        return false;
-    }
-    if !is_record(state, r) {
-        return false;
-    }
-    has_words(ws, model)
+fn is_stepped(
+    x: Stepped,
+    r: Record,
+    a: Result<Progress, Unanswered>,
+    ws: &[u32; 20000],
+    model: &[u32; 20000],
+) -> bool {
+    told(x.progress) == a && x.state == r && ws == model
 }
 
 // ---- calls that should answer a, where record r and the model's words should be left
@@ -202,20 +149,12 @@ fn starts(
     q: Request,
     given: Record,
     r: Record,
-    a: Answer,
-    ws: &mut [u32],
+    a: Result<Progress, Unanswered>,
+    ws: &mut [u32; 20000],
     model: &[u32; 20000],
 ) -> bool {
     let n = lent(q.room, ws.len());
-    let x = start(
-        given,
-        &mut ws[..n],
-        s,
-        q.pair_limit,
-        q.subset_limit,
-        q.assumed_true,
-        q.assumed_false,
-    );
+    let x = start(given, &mut ws[..n], s, terms(q));
     is_stepped(x, r, a, ws, model)
 }
 
@@ -224,39 +163,19 @@ fn steps(
     q: Request,
     given: Record,
     r: Record,
-    a: Answer,
-    ws: &mut [u32],
+    a: Result<Progress, Unanswered>,
+    ws: &mut [u32; 20000],
     model: &[u32; 20000],
 ) -> bool {
     let n = lent(q.room, ws.len());
-    let x = steps::advance(
-        given,
-        &mut ws[..n],
-        s,
-        q.pair_limit,
-        q.subset_limit,
-        q.assumed_true,
-        q.assumed_false,
-    );
+    let x = steps::advance(given, &mut ws[..n], s, terms(q));
     is_stepped(x, r, a, ws, model)
 }
 
-fn outcome(o: Outcome) -> Answer {
-    answered(kind(o), value(o), place(o) as usize)
-}
-
-fn concludes(s: &[u8], q: Request, r: Record, a: Answer, ws: &[u32]) -> bool {
+fn concludes(s: &[u8], q: Request, r: Record, a: Answered, ws: &[u32; 20000]) -> bool {
     let n = lent(q.room, ws.len());
-    let o = verdict(
-        r,
-        &ws[..n],
-        s,
-        q.pair_limit,
-        q.subset_limit,
-        q.assumed_true,
-        q.assumed_false,
-    );
-    is_same(outcome(o), a)
+    let o = Outcome::from(verdict(r, &ws[..n], s, terms(q)));
+    decision(o) == a
 }
 
 // A verdict that answers v, and a step that answers a and changes nothing.
@@ -264,20 +183,29 @@ fn stays(
     s: &[u8],
     q: Request,
     r: Record,
-    v: Answer,
-    a: Answer,
+    v: Answered,
+    a: Result<Progress, Unanswered>,
     ws: &mut [u32; 20000],
     model: &[u32; 20000],
 ) -> bool {
-    if !concludes(s, q, r, v, ws) {
-        return false;
-    }
-    steps(s, q, r, r, a, ws, model)
+    concludes(s, q, r, v, ws) && steps(s, q, r, r, a, ws, model)
 }
 
 // 18.
-fn bad_record(r: Record) -> Answer {
-    answered(REFUSED, BAD_RECORD, r.place)
+fn bad_record(r: Record) -> Unanswered {
+    Unanswered::Refused(Reason::BadRecord.number(), r.place)
+}
+
+// A verdict and a step that both refuse a record as a bad one.
+fn refuses_record(
+    s: &[u8],
+    q: Request,
+    r: Record,
+    ws: &mut [u32; 20000],
+    model: &[u32; 20000],
+) -> bool {
+    let e = bad_record(r);
+    stays(s, q, r, Err(e), Err(e), ws, model)
 }
 
 // ---- damage: none of it leaves a form that some record has
@@ -289,44 +217,35 @@ fn other_number(x: u64, n: u64) -> u64 {
     if x % 2 == 0 {
         return n - 1;
     }
-    n % 4294967296 + 1
+    n.saturating_add(1)
 }
 
 fn with_other_count(x: u64, r: Record) -> Record {
     let k = (x % 8) as usize;
     let mut counts = r.counts;
     counts[k] = other_number(x / 8, counts[k]);
-    Record {
-        place: r.place,
-        tables: r.tables,
-        counts,
-    }
-}
-
-fn with_other_numbers(place: usize, tables: usize, r: Record) -> Record {
-    let counts = r.counts;
-    Record {
-        place,
-        tables,
-        counts,
-    }
+    Record { counts, ..r }
 }
 
 // Behind a place no command starts before which there are as many tables.
 fn damaged(x: u64, r: Record) -> Record {
     match x % 4 {
-        0 => with_other_numbers(r.place % 8192 + 1, r.tables, r),
-        1 => with_other_numbers(r.place, other_number(x / 4, r.tables as u64) as usize, r),
+        0 => Record {
+            place: r.place % 8192 + 1,
+            ..r
+        },
+        1 => Record {
+            tables: other_number(x / 4, r.tables as u64) as usize,
+            ..r
+        },
         _ => with_other_count(x / 4, r),
     }
 }
 
 // The same word in both; what stood there.
 fn exchange(ws: &mut [u32; 20000], model: &mut [u32; 20000], k: usize, x: u32) -> u32 {
-    let old = ws[k % 20000];
-    ws[k % 20000] = x;
     model[k % 20000] = x;
-    old
+    mem::replace(&mut ws[k % 20000], x)
 }
 
 fn refuses_word(
@@ -339,7 +258,7 @@ fn refuses_word(
     model: &mut [u32; 20000],
 ) -> bool {
     let old = exchange(ws, model, k, x);
-    let is_refused = stays(s, q, r, bad_record(r), bad_record(r), ws, model);
+    let is_refused = refuses_record(s, q, r, ws, model);
     exchange(ws, model, k, old);
     is_refused
 }
@@ -355,11 +274,7 @@ fn needed(x: u64, need: usize) -> usize {
 
 // One of the last three, which are scratch.
 fn scratch(x: u64, need: usize) -> usize {
-    let k = (x % 3) as usize + 1;
-    if need < k {
-        return 0;
-    }
-    need - k
+    need.saturating_sub((x % 3) as usize + 1)
 }
 
 // A word that is no triple and no number of subsets; a word that is not in use.
@@ -372,10 +287,8 @@ fn refuses_words(
     model: &mut [u32; 20000],
 ) -> bool {
     let need = need_of(s, q);
-    if !refuses_word(s, q, r, needed(x, need), NO_TRIPLE, ws, model) {
-        return false;
-    }
-    refuses_word(s, q, r, scratch(x, need), 1, ws, model)
+    refuses_word(s, q, r, needed(x, need), NO_TRIPLE, ws, model)
+        && refuses_word(s, q, r, scratch(x, need), 1, ws, model)
 }
 
 fn refuses_damage(
@@ -386,42 +299,31 @@ fn refuses_damage(
     ws: &mut [u32; 20000],
     model: &mut [u32; 20000],
 ) -> bool {
-    let d = damaged(x, r);
-    if !stays(s, q, d, bad_record(d), bad_record(d), ws, model) {
-        return false;
-    }
-    refuses_words(s, q, r, x / 32, ws, model)
+    refuses_record(s, q, damaged(x, r), ws, model) && refuses_words(s, q, r, x / 32, ws, model)
 }
 
-// ---- walks: what one says is the number of the refusal that it ends with, or one of these
-
-const AGREED: u64 = 20;
-
-// More atoms or rules than the oracle keeps.
-const UNTRIED: u64 = 22;
-
-// Disagreements.
-const START: u64 = 32;
-
-const STEP: u64 = 33;
-
-const DAMAGE: u64 = 34;
-
-const VERDICT: u64 = 35;
-
-// The first if both agree.
-fn said(is_agreed: bool, number: u64, disagreement: u64) -> u64 {
-    if is_agreed {
-        return number;
-    }
-    disagreement
-}
+// ---- walks: one gives the refusal or the decision that it ends with
 
 #[derive(Clone, Copy)]
-struct Turned {
-    state: Record,
-    // 0 where the walk goes on
-    said: u64,
+enum Disagreement {
+    Start = 32,
+    Step = 33,
+    Damage = 34,
+    Verdict = 35,
+}
+
+impl From<Disagreement> for u64 {
+    fn from(d: Disagreement) -> u64 {
+        d as u64
+    }
+}
+
+// What a step leaves: the record that the walk goes on from, or the refusal that it ends with. No Result: a refusal that both give is agreed on, and `?`
+// is for disagreements.
+#[derive(Clone, Copy)]
+enum Turned {
+    To(Record),
+    Refused(Unanswered),
 }
 
 // A step to what the oracle has read, p.
@@ -433,21 +335,24 @@ fn step_to(
     words: &mut [u32; 16512],
     ws: &mut [u32; 20000],
     model: &mut [u32; 20000],
-) -> Turned {
-    let a = table_answer(write_table(p, q, words), q, p.place);
-    if a.kind == REFUSED {
-        let stayed = stays(s, q, r, bad_record(r), a, ws, model);
-        return Turned {
-            state: r,
-            said: said(stayed, a.value, STEP),
-        };
-    }
-    put_table(model, need_of(s, q), q, p.depth, words, a.value);
-    let next = moved(r, p, a.value);
-    let stepped = steps(s, q, r, next, answered(MOVED, 0, 0), ws, model);
-    Turned {
-        state: next,
-        said: said(stepped, 0, STEP),
+) -> Result<Turned, Disagreement> {
+    match table_answer(write_table(p, q, words), q, p.place) {
+        Ok(w) => {
+            put_table(model, need_of(s, q), q, p.depth, words, w.entries);
+            let next = moved(r, p, w.entries);
+            held(
+                steps(s, q, r, next, Ok(Progress::Moved), ws, model),
+                Disagreement::Step,
+            )?;
+            Ok(Turned::To(next))
+        }
+        Err(e) => {
+            held(
+                stays(s, q, r, Err(bad_record(r)), Err(e), ws, model),
+                Disagreement::Step,
+            )?;
+            Ok(Turned::Refused(e))
+        }
     }
 }
 
@@ -459,11 +364,12 @@ fn guards(
     x: u64,
     ws: &mut [u32; 20000],
     model: &mut [u32; 20000],
-) -> u64 {
-    if !concludes(s, q, r, bad_record(r), ws) {
-        return VERDICT;
-    }
-    said(refuses_damage(s, q, r, x, ws, model), 0, DAMAGE)
+) -> Result<(), Disagreement> {
+    held(
+        concludes(s, q, r, Err(bad_record(r)), ws),
+        Disagreement::Verdict,
+    )?;
+    held(refuses_damage(s, q, r, x, ws, model), Disagreement::Damage)
 }
 
 fn turn(
@@ -475,21 +381,19 @@ fn turn(
     words: &mut [u32; 16512],
     ws: &mut [u32; 20000],
     model: &mut [u32; 20000],
-) -> Turned {
-    let guarded = guards(s, q, r, x, ws, model);
-    if guarded != 0 {
-        return Turned {
-            state: r,
-            said: guarded,
-        };
-    }
+) -> Result<Turned, Disagreement> {
+    guards(s, q, r, x, ws, model)?;
     step_to(s, q, p, r, words, ws, model)
 }
 
 // The decision's yes or no, without a plan.
-fn decided(s: &[u8], q: Request, words: &mut [u32; 16512]) -> Answer {
-    let a = answer(s, q, words);
-    answered(a.kind, 0, 0)
+fn decided(s: &[u8], q: Request, words: &mut [u32; 16512]) -> Answered {
+    match answer(s, q, words) {
+        Ok(Answer::Yes(_)) => Ok(Answer::Yes(0)),
+        // no verdict refuses at the end, so this agrees with none
+        Err(_) => Err(Unanswered::NotTried),
+        a => a,
+    }
 }
 
 // At the end a step changes nothing, and the verdict is the decision.
@@ -497,12 +401,15 @@ fn concluded(
     s: &[u8],
     q: Request,
     r: Record,
-    v: Answer,
+    v: Answered,
     ws: &mut [u32; 20000],
     model: &[u32; 20000],
-) -> u64 {
-    let ended = stays(s, q, r, v, answered(ENDED, 0, 0), ws, model);
-    said(ended, AGREED + v.kind % 4, VERDICT)
+) -> Result<Answered, Disagreement> {
+    held(
+        stays(s, q, r, v, Ok(Progress::Ended), ws, model),
+        Disagreement::Verdict,
+    )?;
+    Ok(v)
 }
 
 fn ends(
@@ -513,10 +420,8 @@ fn ends(
     words: &mut [u32; 16512],
     ws: &mut [u32; 20000],
     model: &mut [u32; 20000],
-) -> u64 {
-    if !refuses_damage(s, q, r, x, ws, model) {
-        return DAMAGE;
-    }
+) -> Result<Answered, Disagreement> {
+    held(refuses_damage(s, q, r, x, ws, model), Disagreement::Damage)?;
     concluded(s, q, r, decided(s, q, words), ws, model)
 }
 
@@ -527,18 +432,17 @@ fn walk(
     words: &mut [u32; 16512],
     ws: &mut [u32; 20000],
     model: &mut [u32; 20000],
-) -> u64 {
+) -> Result<Answered, Disagreement> {
     let mut p = no_policy();
     let mut r = started();
     let mut x = seed;
     while p.at < s.len() {
         x = next_seed(x);
         p = readings::advance(s, p);
-        let t = turn(s, q, p, r, drawn(x), words, ws, model);
-        if t.said != 0 {
-            return t.said;
+        match turn(s, q, p, r, drawn(x), words, ws, model)? {
+            Turned::To(next) => r = next,
+            Turned::Refused(e) => return Ok(Err(e)),
         }
-        r = t.state;
     }
     ends(s, q, r, drawn(seed), words, ws, model)
 }
@@ -555,12 +459,44 @@ fn any_record() -> Record {
 }
 
 // Where the checks refuse, so does every call, and nothing changes.
-fn refuses(s: &[u8], q: Request, a: Answer, ws: &mut [u32; 20000], model: &[u32; 20000]) -> u64 {
+fn refuses(
+    s: &[u8],
+    q: Request,
+    e: Unanswered,
+    ws: &mut [u32; 20000],
+    model: &[u32; 20000],
+) -> Result<Answered, Disagreement> {
     let r = any_record();
-    if !starts(s, q, r, r, a, ws, model) {
-        return START;
-    }
-    said(stays(s, q, r, a, a, ws, model), a.value, STEP)
+    held(starts(s, q, r, r, Err(e), ws, model), Disagreement::Start)?;
+    held(
+        stays(s, q, r, Err(e), Err(e), ws, model),
+        Disagreement::Step,
+    )?;
+    Ok(Err(e))
+}
+
+fn started_walk(
+    s: &[u8],
+    q: Request,
+    seed: u64,
+    words: &mut [u32; 16512],
+    ws: &mut [u32; 20000],
+    model: &mut [u32; 20000],
+) -> Result<Answered, Disagreement> {
+    clear(model, 0, need_of(s, q));
+    held(
+        starts(
+            s,
+            q,
+            any_record(),
+            started(),
+            Ok(Progress::Moved),
+            ws,
+            model,
+        ),
+        Disagreement::Start,
+    )?;
+    walk(s, q, seed, words, ws, model)
 }
 
 fn try_lent(
@@ -570,30 +506,15 @@ fn try_lent(
     words: &mut [u32; 16512],
     ws: &mut [u32; 20000],
     model: &mut [u32; 20000],
-) -> u64 {
-    let p = check(s, q);
-    if p.fault == LARGE {
-        return UNTRIED;
+) -> Result<Answered, Disagreement> {
+    match check(s, q) {
+        Ok(_) => started_walk(s, q, seed, words, ws, model),
+        Err(Unanswered::NotTried) => Ok(Err(Unanswered::NotTried)),
+        Err(e) => refuses(s, q, e, ws, model),
     }
-    if p.fault != 0 {
-        return refuses(s, q, answered(REFUSED, p.fault, p.place), ws, model);
-    }
-    clear(model, 0, need_of(s, q));
-    if !starts(
-        s,
-        q,
-        any_record(),
-        started(),
-        answered(MOVED, 0, 0),
-        ws,
-        model,
-    ) {
-        return START;
-    }
-    walk(s, q, seed, words, ws, model)
 }
 
-fn try_request(s: &[u8], q: Request, seed: u64) -> u64 {
+fn try_request(s: &[u8], q: Request, seed: u64) -> Result<Answered, Disagreement> {
     let mut words = [0u32; 16512];
     let mut ws = [MARK; ROOM];
     let mut model = [MARK; ROOM];
@@ -602,23 +523,7 @@ fn try_request(s: &[u8], q: Request, seed: u64) -> u64 {
 
 const TRIALS: u64 = 2000;
 
-fn request(seed: u64) -> Request {
-    let x = drawn(seed);
-    let more = next_seed(seed);
-    Request {
-        pair_limit: limit(x),
-        subset_limit: limit(x / 4096),
-        room: ROOM as u64,
-        assumed_true: pins(more),
-        assumed_false: pins(next_seed(more)),
-        is_plain: false,
-        is_report: false,
-        asked: 0,
-        buffer: 0,
-    }
-}
-
-fn try_seed(seed: u64) -> u64 {
+fn try_seed(seed: u64) -> Result<Answered, Disagreement> {
     let mut bytes = [0u8; 768];
     let more = next_seed(seed / 5);
     let n = sheet(drawn(more), seed, &mut bytes);
@@ -627,31 +532,16 @@ fn try_seed(seed: u64) -> u64 {
     try_request(&bytes[..n], q, seed)
 }
 
-// Up to the first disagreement, which is printed: its seed and its kind.
-fn try_seeds(rt: &impl Print, n: u64, counts: &mut [u64; 64]) -> io::Result<()> {
-    let mut seed: u64 = 1;
-    let mut k: u64 = 0;
-    while k < n {
-        seed = next_seed(seed);
-        let answer = try_seed(seed);
-        if answer >= START {
-            return print_disagreement(rt, seed, answer);
-        }
-        count(counts, answer);
-        k += 1;
-    }
-    Ok(())
-}
-
 fn print_all(rt: &impl Print, counts: &[u64; 64]) -> io::Result<()> {
     print_counts(rt, counts, 1, 17)?;
     println!(rt; "refused, by number")?;
-    print_counts(rt, counts, 20, 23)?;
+    print_counts(rt, counts, 20, 22)?;
+    print_counts(rt, counts, 23, 24)?;
     println!(rt; "no, yes, not tried")
 }
 
 fn main(rt: HostRuntime) -> io::Result<()> {
     let mut counts = [0u64; 64];
-    try_seeds(&rt, TRIALS, &mut counts)?;
+    tallies::try_seeds(&rt, TRIALS, &mut counts, try_seed)?;
     print_all(&rt, &counts)
 }

@@ -10,9 +10,8 @@ use borrow.Author.Tests.{ltb-true, ltb-false}
 use Rattle.labels.specs.Labels.{label_count}
 use Rattle.expression.specs.declared.Command.{Command}
 use Rattle.expression.specs.declared.Counts.{Counts}
-use Rattle.expression.specs.declared.Read.TheVariants.{Command as Got, Fault}
 use Rattle.expression.specs.Limits.{depth_limit}
-use Rattle.expression.specs.Commands.{Suits, read_at}
+use Rattle.expression.specs.Commands.{Got, Fault, Suits, read_at}
 use Rattle.expression.specs.Effects.{effect, operands_by, depth_by}
 use Rattle.expression.specs.Reading.{no_counts, new_atoms, depth_after, counted, capped, count_fault, Placed}
 use Rattle.expression.proofs.Totals.{counted-limited, capped-limited, passes-operands, one_left}

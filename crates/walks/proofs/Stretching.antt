@@ -13,8 +13,7 @@ use Rattle.expression.specs.declared.Leaf.TheVariants as leaf
 use Rattle.expression.specs.declared.Effect.{Effect}
 use Rattle.expression.specs.declared.Effect.TheVariants.{Push, Unite, Change, Pass}
 use Rattle.expression.specs.declared.Counts.{Counts}
-use Rattle.expression.specs.declared.Read.TheVariants.{Command as Got}
-use Rattle.expression.specs.Commands.{read_at}
+use Rattle.expression.specs.Commands.{Got, read_at}
 use Rattle.expression.specs.Effects.{effect}
 use Rattle.expression.specs.Reading.{counted, capped}
 use Rattle.expression.proofs.Commands.{read-ends}

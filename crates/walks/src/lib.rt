@@ -12,18 +12,19 @@ use advances::{advance, fault_of};
 use ahead::run_ahead;
 use commands::counting::{counted, no_counts};
 use entries::Carry;
-use expression::Read;
+use expression::Pins;
+use expression::refusals::Refusal;
 use leaves::{Tables, atom_at};
 use reader::read_next;
 
-// A command whose table exceeds a limit, with the refusal's number, its place and how many tables stand; or how many stand after all commands.
+// A command whose table exceeds a limit, and how many tables stand then.
 #[derive(Clone, Copy)]
-pub enum Reached {
-    Stopped(u64, usize, usize),
-    Through(usize),
+pub struct Stopped {
+    pub refusal: Refusal,
+    pub tables: usize,
 }
 
-// All commands that start before `stop`, in d areas, on no tables at first. The expression passed the checks, so every offset that comes is a
+// All commands that start before `stop`, in d areas, on no tables at first; how many tables stand then. The expression passed the checks, so every offset that comes is a
 // command's. ops is lent for words of commands.
 fn walk_by(
     s: &[u8],
@@ -39,12 +40,11 @@ fn walk_by(
     d: usize,
     w: usize,
     p: usize,
-    assumed_true: u64,
-    assumed_false: u64,
-) -> Reached
+    pins: Pins,
+) -> Result<usize, Stopped>
     requires wide { Wide kind w × (w ≤ 4096) × (1 ≤ p) × (p ≤ 1024) × (length row.old ≡ w) × (p ≤ length index.old) × (stop ≤ length s.now) × (length ops.old ≤ batch_limit) }
     requires enough { Enough d s.now × ((beyond : List ℕ) × Stands carry d w p [] beyond ws.old vals.old counts.old) }
-    ensures { (beyond : List ℕ) → Stands carry d w p [] beyond ws.old vals.old counts.old → Reaches kind carry (by_masks assumed_true assumed_false) d w p stop s.now beyond ws.new vals.new counts.new result }
+    ensures { (beyond : List ℕ) → Stands carry d w p [] beyond ws.old vals.old counts.old → Reaches kind carry (by_masks pins.assumed_true pins.assumed_false) d w p stop s.now beyond ws.new vals.new counts.new result }
 {
     let mut at: usize = 0;
     let mut n = no_counts();
@@ -53,24 +53,26 @@ fn walk_by(
             s, stop, at, n, ops, ws, row, index, vals, counts, carry, d, w, p,
         );
         if stop <= b.next {
-            return Reached::Through(b.counts.depth as usize);
+            return Ok(b.counts.depth as usize);
         }
-        let r = read_next(s, b.next);
-        let Read::Command(c, next) = r else {
-            return Reached::Through(0);
+        let Ok((c, next)) = read_next(s, b.next) else {
+            return Ok(0);
         };
         let t = b.counts.depth as usize;
-        let atom = atom_at(carry, b.counts.atoms, assumed_true, assumed_false);
+        let atom = atom_at(carry, b.counts.atoms, pins);
         let k = advance(
             ws, row, index, vals, counts, kind, carry, d, w, p, t, c, atom,
         );
         if p < k {
-            return Reached::Stopped(fault_of(p, k), b.next, t);
+            return Err(Stopped {
+                refusal: fault_of(p, k).at(b.next),
+                tables: t,
+            });
         }
         n = counted(b.counts, c);
         at = next;
     }
-    Reached::Through(n.depth as usize)
+    Ok(n.depth as usize)
 }
 
 // The same with words of its own.
@@ -87,29 +89,14 @@ pub fn walk(
     d: usize,
     w: usize,
     p: usize,
-    assumed_true: u64,
-    assumed_false: u64,
-) -> Reached
+    pins: Pins,
+) -> Result<usize, Stopped>
     requires wide { Wide kind w × (w ≤ 4096) × (1 ≤ p) × (p ≤ 1024) × (length row.old ≡ w) × (p ≤ length index.old) × (stop ≤ length s.now) }
     requires enough { Enough d s.now × ((beyond : List ℕ) × Stands carry d w p [] beyond ws.old vals.old counts.old) }
-    ensures { (beyond : List ℕ) → Stands carry d w p [] beyond ws.old vals.old counts.old → Reaches kind carry (by_masks assumed_true assumed_false) d w p stop s.now beyond ws.new vals.new counts.new result }
+    ensures { (beyond : List ℕ) → Stands carry d w p [] beyond ws.old vals.old counts.old → Reaches kind carry (by_masks pins.assumed_true pins.assumed_false) d w p stop s.now beyond ws.new vals.new counts.new result }
 {
     let mut ops = [0u32; batches::BATCH_LIMIT];
     walk_by(
-        s,
-        stop,
-        ws,
-        row,
-        index,
-        vals,
-        counts,
-        &mut ops,
-        kind,
-        carry,
-        d,
-        w,
-        p,
-        assumed_true,
-        assumed_false,
+        s, stop, ws, row, index, vals, counts, &mut ops, kind, carry, d, w, p, pins,
     )
 }

@@ -10,13 +10,11 @@ use lib.ListN.{length, length-map, take}
 use Rattle.lists.specs.Lists.{some, All, run}
 use Rattle.labels.specs.Labels.{label_count}
 use Rattle.expression.specs.declared.Counts.{Counts}
-use Rattle.expression.specs.declared.Checked.{Checked}
-use Rattle.expression.specs.declared.Checked.TheVariants.{Passed, Refused}
 use Rattle.expression.specs.Refusals.{group, subsets_full, plans_full}
 use Rattle.expression.specs.Commands.{Suits}
 use Rattle.expression.specs.Reading.{Placed, Reading, reading}
-use Rattle.expression.specs.Checks.{Request, first_of, counts_of, checks, check}
-use Rattle.semantics.specs.Expressions.{act, act_all}
+use Rattle.expression.specs.Checks.{Checked, Passed, Refused, Request, first_of, counts_of, checks, check}
+use Rattle.semantics.specs.Expressions.{act_all}
 use Rattle.semantics.specs.Programs.{numbers}
 use Rattle.semantics.specs.AnswerSets.{Assumptions}
 use Rattle.semantics.proofs.Readings.{commands_of}
@@ -24,7 +22,7 @@ use Rattle.tables.specs.Algebras.{Algebra, tables}
 use Rattle.tables.specs.Triples.{all_met}
 use Rattle.tables.specs.Definitions.{Pair, own_triple, subsets, pairs, plain_accepts, accepting, grounded_accepts}
 use Rattle.tables.proofs.Morphisms.{tables-map}
-use Rattle.decisions.specs.Decisions.{assumed, commands_in, pairs_fault, plain_fault, newest, Walked, walk, conclude, decide, grounded, plain, tree_of, expression_of}
+use Rattle.decisions.specs.Decisions.{assumed, commands_in, pairs_fault, plain_fault, newest, walk, conclude, decide, grounded, plain, tree_of, expression_of}
 use Rattle.decisions.specs.First.{leaving, keeping, chosen, first_mask}
 use Rattle.decisions.specs.Outcomes.{with_mask, without_mask, grounded_outcome, plain_outcome}
 use Rattle.decisions.specs.Exceeding.{table_after}

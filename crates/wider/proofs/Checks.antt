@@ -11,15 +11,11 @@ use borrow.Author.Tests.{ltb-true, ltb-false, leb-false, lt-leb}
 use Rattle.lists.proofs.Members.{or-neither}
 use Rattle.expression.specs.declared.Command.{Command}
 use Rattle.expression.specs.declared.Command.TheVariants.{Name}
-use Rattle.expression.specs.declared.Read.{Read}
-use Rattle.expression.specs.declared.Read.TheVariants.{Command as Got, Fault}
 use Rattle.expression.specs.declared.Counts.{Counts}
-use Rattle.expression.specs.declared.Checked.{Checked}
-use Rattle.expression.specs.declared.Checked.TheVariants.{Passed, Refused}
 use Rattle.expression.specs.Refusals.{unknown, cut, group, same}
-use Rattle.expression.specs.Commands.{one_operand, two_operands, is_name, is_command, tail_length, name_start, command_of, read_command, read_at, refusal_of}
+use Rattle.expression.specs.Commands.{Read, Got, Fault, one_operand, two_operands, is_name, is_command, tail_length, name_start, command_of, read_command, read_at, refusal_of}
 use Rattle.expression.specs.Reading.{no_counts, counted, count_fault, Placed, Reading, faulty, whole, behind, read_from, reading}
-use Rattle.expression.specs.Checks.{Request, Test, first_of, is_faulty, fault_number, fault_place, counts_of, overlong_test, limits_test, cramped_test, clash_test, fault_test, unjoined_test, absent_test, checks, check, check_sheet, depth_told, depth_outcome}
+use Rattle.expression.specs.Checks.{Checked, Passed, Refused, Request, Test, first_of, is_faulty, fault_number, fault_place, counts_of, overlong_test, limits_test, cramped_test, clash_test, fault_test, unjoined_test, absent_test, checks, check, check_sheet, depth_told, depth_outcome}
 use Rattle.expression.proofs.Readings.{from_end, from-fault, from-count-fault, from_step}
 use Rattle.expression.proofs.Accepted.{check-accepted}
 

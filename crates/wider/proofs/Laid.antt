@@ -11,7 +11,8 @@ use lib.Bits.{bit_or}
 use lib.Dec.{eqb, ltb}
 use lib.Pow.{pow-add, shr-shr}
 use borrow.Author.Tests.{lt-ltb, le-ltb}
-use Rattle.lists.specs.declared.Order.TheVariants.{Less, Same, More}
+use Rattle.std.specs.declared.cmp.Ordering.TheVariants.{Less, Equal, Greater}
+use Rattle.std.specs.Ordering.{ordering_then}
 use Rattle.lists.specs.Lists.{products}
 use Rattle.lists.specs.Sorted.{by_order, compare_numbers, compare_lists, set_of}
 use Rattle.lists.proofs.Members.{products-map}
@@ -38,7 +39,7 @@ less_by : (x y : ℕ) → ltb x y ≡ by_order (compare_numbers x y) true false 
 unfolding compare_numbers
 less_by x y = step (ltb x y) (eqb x y)
   where
-    step : (b d : Bool) → b ≡ by_order (cond b Less (cond d Same More)) true false false
+    step : (b d : Bool) → b ≡ by_order (cond b Less (cond d Equal Greater)) true false false
     step true d = refl
     step false true = refl
     step false false = refl
@@ -152,7 +153,7 @@ module _ (K L : ℕ) (wide : K ≤ L) where
   laid-lists [] [] = refl
   laid-lists [] (r ∷ y) = refl
   laid-lists (q ∷ x) [] = refl
-  laid-lists (q ∷ x) (r ∷ y) = ap₂ (λ o u. by_order o Less u More) (laid-order q r) (laid-lists x y)
+  laid-lists (q ∷ x) (r ∷ y) = ap₂ ordering_then (laid-order q r) (laid-lists x y)
 
   pub laid-own : (x : Pair) → own_triple (map laid x) ≡ laid (own_triple x)
   laid-own [] = sym laid_none

@@ -12,8 +12,8 @@ use lib.Bits.{bit_or}
 use lib.Dec.{eqb, ltb}
 use lib.Pow.{pow_pos, pow_mono, shr-shr, shr_mono, split, high, low, field, mod-mod-pow}
 use borrow.Author.Tests.{eq-eqb, ne_eqb, eqb-true, le-ltb, ltb-true, ltb-false}
-use Rattle.lists.specs.declared.Order.{Order}
-use Rattle.lists.specs.declared.Order.TheVariants.{Less, Same, More}
+use Rattle.std.specs.declared.cmp.Ordering.{Ordering}
+use Rattle.std.specs.declared.cmp.Ordering.TheVariants.{Less, Equal, Greater}
 use Rattle.lists.specs.Sorted.{compare_numbers}
 use Rattle.lists.proofs.Comparisons.{less-is, more-is, same-is, is-less, is-more, is_same}
 use Rattle.labels.specs.Sets.{has, without, replace}
@@ -87,10 +87,10 @@ module _ {p h : ℕ → ℕ} (M : Moves p h) where
   pub moved_order : (x y : ℕ) → compare_numbers (h x) (h y) ≡ compare_numbers x y
   moved_order x y = step (compare_numbers x y) refl
     where
-      step : (o : Order) → compare_numbers x y ≡ o → compare_numbers (h x) (h y) ≡ o
+      step : (o : Ordering) → compare_numbers x y ≡ o → compare_numbers (h x) (h y) ≡ o
       step Less e = is-less (h x) (h y) (M.rises x y (less-is x y e))
-      step Same e = is_same (h x) (h y) (ap h (same-is x y e))
-      step More e = is-more (h x) (h y) (M.rises y x (more-is x y e))
+      step Equal e = is_same (h x) (h y) (ap h (same-is x y e))
+      step Greater e = is-more (h x) (h y) (M.rises y x (more-is x y e))
 
 -- ---- digits from K on, moved by h and then to L on
 

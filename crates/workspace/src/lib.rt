@@ -11,13 +11,8 @@ fn move_words(vals: &mut [u64], to: usize, from: usize, n: usize)
     requires { (to + n ≤ from) × (from + n ≤ length vals.old) }
     ensures { vals.new ≡ moved_to to from n vals.old }
 {
-    let mut i = 0;
-    while i < n {
-        let v = vals[from + i];
-        vals[to + i] = v;
-        vals[from + i] = 0;
-        i += 1;
-    }
+    vals.copy_within(from..from + n, to);
+    vals[from..from + n].fill(0);
 }
 
 // The r values that were made, in the last of d areas, become those of table i.

@@ -1,5 +1,4 @@
 -- `answers::least_accepting`: the rows left, summed onto the best so far, make the whole.
-use Prim.Native.Nat.{◌-◌, ◌≤◌}
 use Rattle.labels.specs.Labels.{label_count}
 use Rattle.tables.specs.Definitions.{accepting}
 use Rattle.answers.specs.Answers.{total_of}
@@ -8,7 +7,4 @@ use Rattle.answers.proofs.least_accepting.Given as goal
 
 abbrev pub invariant-loop-j : goal.invariant-loop-j
 invariant-loop-j l =
-    (l.j ≤ l.n) × Remains (accepting label_count) l.carry l.w l.p l.a l.n l.vals l.ws l.j (total_of l.best)
-
-abbrev pub decreases-loop-j : goal.decreases-loop-j
-decreases-loop-j l = l.n - l.j
+    Remains (accepting label_count) l.carry l.w l.p l.a l.n l.vals l.ws l.j (total_of l.best)

@@ -1,28 +1,13 @@
--- `answers::some_met`: what is left of the list tells of the whole.
-use mathlib.Core.Path.{◌≡◌}
-use Prim.Native.Nat.{◌-◌}
-use native.Mathlib.Omega.{arith}
-use lib.ListN.{length}
-use lib.Seq.{drop-length}
-use borrow.Author.Tests.{lt-ltb, le-ltb}
+-- `answers::some_met`: std's test of every element.
+use Rattle.std.proofs.Common.{rules}
+use Rattle.std.proofs.lemmas.Iterator.{YieldsList-from_slice}
+use Rattle.std.proofs.lemmas.Iterator.Search.{any_from_yields_List}
+use borrow.Author.Tests.{tests}
 use Rattle.lists.specs.Lists.{some}
+use Rattle.labels.specs.Labels.{label_count}
 use Rattle.tables.specs.Triples.{all_met}
-use Rattle.answers.proofs.Looking.{found, passed}
 use Rattle.answers.proofs.some_met.Goals as goal
 
-pub returns-then-triples-i-lt-UNMET : goal.returns-then-triples-i-lt-UNMET
-unfolding all_met
-returns-then-triples-i-lt-UNMET c =
-    found _ _ _ c.loop-i-test.true c.loop-i.invariant.1 (lt-ltb _ _ c.if-triples-i-lt-UNMET.true)
-
-pub loop-i-preserved : goal.loop-i-preserved
-unfolding all_met
-loop-i-preserved c =
-    (omega arith, passed _ _ _ c.loop-i-test.true c.loop-i.invariant.1 (le-ltb _ _ c.if-triples-i-lt-UNMET.false))
-
 pub returns : goal.returns
-unfolding some
-returns c =
-    let triples = c.args.triples.now in
-    let end : c.loop-i.i ≡ length triples = omega arith in
-    rw (end, drop-length triples) at c.loop-i.invariant.1
+unfolding all_met some
+returns c = any_from_yields_List (all_met label_count) _ _ _ c.any.ensures.ran (YieldsList-from_slice c.args.triples.now cc) (λ x b q k. search (rules, tests))

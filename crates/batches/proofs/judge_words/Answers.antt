@@ -1,21 +1,12 @@
--- `batches::judge_words`: below i the words are mapped.
-use mathlib.Core.Path.{sym, ap, ◌∙◌}
-use mathlib.Core.List.{List, map}
-use Prim.Native.Nat.{ℕ, ◌-◌, ◌<◌}
+-- `batches::judge_words`: the triples before the index are mapped.
+use Prim.Native.Nat.{◌<◌}
 use native.Mathlib.Omega.{arith}
-use lib.ListN.{length, get_or, length-set, length-map}
-use Rattle.labels.specs.Labels.{label_count}
-use Rattle.words.proofs.Mix.{mix-more, mix-get-high}
-use Rattle.batches.specs.Batches.{judge_triple}
-use Rattle.batches.proofs.Steps.{map_read}
+use lib.ListN.{length}
+use Rattle.std.proofs.lemmas.List.{get_or_default}
+use Rattle.std.proofs.lemmas.List.Edits.{map_over_more}
 use Rattle.batches.proofs.judge_words.Goals as goal
 
-pub loop-i-preserved : goal.loop-i-preserved
-loop-i-preserved c =
-    let b = c.args.run.now in
-    let f = judge_triple label_count c.args.j c.args.q in
-    let i = c.loop-i.i in
-    let q = c.loop-i.invariant in
-    let n = length-map b f in
-    let l : i < length b = omega (arith, c.loop-i-test.true, q.1) in
-    (omega (arith, l), simp length-set q.1, rw q.2 (mix-more i _ (map f b) b (omega (arith, n, l)) l (map_read f b i l ∙ ap f (sym (ap (λ (u : List ℕ). get_or u i 0) q.2 ∙ mix-get-high i i (map f b) b (omega arith) (omega (arith, n, l)) (omega (arith, l)))) ∙ sym c.judge_triple-y.ensures)))
+pub loop-x-preserved : goal.loop-x-preserved
+loop-x-preserved c =
+    let l : c.loop-x.x-index < length c.loop-x.run = omega arith in
+    rw c.judge_triple.ensures (map_over_more _ _ _ _ _ (omega arith) c.loop-x.invariant (get_or_default _ _ _ _ l))

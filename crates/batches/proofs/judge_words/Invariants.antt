@@ -1,16 +1,11 @@
--- `batches::judge_words`: below i the words are mapped.
+-- `batches::judge_words`: the triples before the index are mapped.
 use mathlib.Core.Path.{◌≡◌}
-use mathlib.Core.List.{map}
-use Prim.Native.Nat.{◌-◌, ◌≤◌}
-use lib.ListN.{length}
+use mathlib.Core.List.{◌++◌, map}
+use lib.ListN.{take, drop}
 use Rattle.labels.specs.Labels.{label_count}
-use Rattle.words.proofs.Mix.{mix}
 use Rattle.batches.specs.Batches.{judge_triple}
 use Rattle.batches.proofs.judge_words.Given as goal
 
-abbrev pub invariant-loop-i : goal.invariant-loop-i
-invariant-loop-i l =
-    (l.i ≤ length l.initial.run) × (length l.run ≡ length l.initial.run) × (l.run ≡ mix l.i (map (judge_triple label_count l.j l.q) l.initial.run) l.initial.run)
-
-abbrev pub decreases-loop-i : goal.decreases-loop-i
-decreases-loop-i l = length l.initial.run - l.i
+abbrev pub invariant-loop-x : goal.invariant-loop-x
+invariant-loop-x l =
+    l.run ≡ map (judge_triple label_count l.j l.q) (take l.x-index l.initial.run) ++ drop l.x-index l.initial.run

@@ -1,23 +1,18 @@
 -- `batches::word_all`: by the word's size.
-use mathlib.Core.Path.{sym, ap₂, ◌∙◌, subst}
+use mathlib.Core.Path.{ap₂, ◌∙◌}
 use mathlib.Core.List.{List, ◌∷◌}
 use Prim.Native.Nat.{ℕ}
 use native.Mathlib.Omega.{arith}
 use Rattle.labels.specs.Labels.{label_count}
-use Rattle.expression.specs.Commands.{Suits}
 use Rattle.batches.proofs.Steps.{suits-word}
 use Rattle.batches.proofs.Words.{command-made, judge-made}
 use Rattle.batches.proofs.word_all.Goals as goal
 
 pub step_words-requires : goal.step_words-requires
-step_words-requires c =
-    let suits : Suits label_count c.command_of-c.result = subst (Suits label_count) (sym c.command_of-c.ensures) (suits-word label_count (omega arith) _) in
-    suits
+step_words-requires c = rw c.command_of-c.ensures (suits-word label_count (omega arith) _)
 
 pub step_triple-requires : goal.step_triple-requires
-step_triple-requires c =
-    let suits : Suits label_count c.command_of-c.result = subst (Suits label_count) (sym c.command_of-c.ensures) (suits-word label_count (omega arith) _) in
-    suits
+step_triple-requires c = rw c.command_of-c.ensures (suits-word label_count (omega arith) _)
 
 pub returns-then-w-lt-JUDGES : goal.returns-then-w-lt-JUDGES
 returns-then-w-lt-JUDGES c =

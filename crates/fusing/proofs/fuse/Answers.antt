@@ -1,6 +1,5 @@
 -- `fusing::fuse`: the halves left, after the words so far, lead to what all commands make; what stands there has no marks but those seen.
 use mathlib.Core.Path.{refl, ◌∙◌}
-use Prim.Native.Nat.{◌-◌}
 use native.Mathlib.Omega.{arith}
 use lib.ListN.{take}
 use Rattle.labels.specs.Labels.{label_count}

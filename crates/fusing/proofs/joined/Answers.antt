@@ -2,16 +2,10 @@
 use mathlib.Core.Path.{refl, sym, ◌∙◌}
 use native.Mathlib.Omega.{arith}
 use Rattle.labels.specs.Labels.{label_count}
-use Rattle.candidates.proofs.Mapping.{relabel-labels, connect-labels}
+use Rattle.candidates.proofs.Mapping.{connect-labels}
 use Rattle.batches.specs.Batches.{is_met}
 use Rattle.fusing.proofs.Words.{connect-fused, relabel-fused}
 use Rattle.fusing.proofs.joined.Goals as goal
-
-pub with_atoms-requires : goal.with_atoms-requires
-with_atoms-requires c = (c.judge_of-j.ensures.1, (connect-labels label_count _ c.in-Connect.is c.requires).0)
-
-pub judge_word-requires-in-Relabel : goal.judge_word-requires-in-Relabel
-judge_word-requires-in-Relabel c = let f = c.judge_of-j.ensures.1 in let l = relabel-labels label_count _ c.in-Relabel.is c.requires in (f.0, f.1, l.0, l.1, omega arith)
 
 pub returns-else-g-j : goal.returns-else-g-j
 returns-else-g-j c =
@@ -26,4 +20,5 @@ unfolding is_met
 returns-else-g-j-2 c =
     let el = sym c.if-g-j-2.false in
     let ea = sym c.if-j.false ∙ el in
-    λ p q r. relabel-fused label_count _ _ (omega (arith, c.if-w-lt-JUDGES.false)) c.judge_of-j.ensures.0 _ _ c.judge_word-in-Relabel.ensures.0 c.judge_word-in-Relabel.ensures.1 _ el ea c.if-j-ne0.false refl _ q r _ c.in-Relabel.is refl refl refl
+    let ez = c.if-j-ne0.false in
+    λ p q r. relabel-fused label_count _ _ (omega (arith, c.if-w-lt-JUDGES.false)) c.judge_of-j.ensures.0 _ _ c.judge_word-in-Relabel.ensures.0 c.judge_word-in-Relabel.ensures.1 _ el ea ez ez _ q r _ c.in-Relabel.is el refl refl

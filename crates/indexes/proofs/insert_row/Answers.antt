@@ -1,5 +1,5 @@
 -- `indexes::insert_row`: the pair is there at its rank, or goes in there.
-use mathlib.Core.Path.{◌≡◌, refl, sym, ap, ◌∙◌}
+use mathlib.Core.Path.{◌≡◌, refl, sym, ◌∙◌}
 use Prim.Native.Nat.{◌+◌, ◌-◌, ◌*◌, ◌≤◌, ◌<◌}
 use lib.ListN.{length}
 use Rattle.candidates.specs.Candidates.{pair_of}
@@ -21,13 +21,13 @@ compare_at-o-requires-clause-readable_2 c =
     let l = place-lt c.requires.indexed c.find_row-k.result c.if-k-m.true in
     slot-readable c.requires.indexed _ l
 
-pub returns-in-Same : goal.returns-in-Same
-returns-in-Same c =
-    (refl, refl, c.find_row-k.ensures, named-there c.requires.indexed (pair_of c.args.row.now) c.find_row-k.result c.find_row-k.ensures c.if-k-m.true (sym c.compare_at-o.ensures ∙ c.in-Same.is))
+pub returns-in-Equal : goal.returns-in-Equal
+returns-in-Equal c =
+    (refl, refl, c.find_row-k.ensures, named-there c.requires.indexed (pair_of c.args.row.now) c.find_row-k.result c.find_row-k.ensures c.if-k-m.true (sym c.compare_at-o.ensures ∙ c.in-Equal.is))
 
 pub returns-then-m-p : goal.returns-then-m-p
 returns-then-m-p c =
-    let absent : There (pair_of c.args.row.now) (sorted_of c.args.w c.args.m c.args.area.now c.args.index.now) → ⊥ = λ t. let n = there-named c.requires.indexed (pair_of c.args.row.now) c.find_row-k.result c.find_row-k.ensures t in elim c.if-k-m.branch [ then-k-m+in_default v ↦ absurd (v.in_default.not-Same (v.compare_at-o.ensures ∙ n.1)) | else-k-m v ↦ omega (arith, n.0) ] in
+    let absent : There (pair_of c.args.row.now) (sorted_of c.args.w c.args.m c.args.area.now c.args.index.now) → ⊥ = λ t. let n = there-named c.requires.indexed (pair_of c.args.row.now) c.find_row-k.result c.find_row-k.ensures t in elim c.if-k-m.branch [ then-k-m+in_default v ↦ absurd (v.in_default.not-Equal (v.compare_at-o.ensures ∙ n.1)) | else-k-m v ↦ omega (arith, n.0) ] in
     (refl, refl, c.if-m-p.true, absent)
 
 pub overflow_mul-at : goal.overflow_mul-at
@@ -74,7 +74,7 @@ slice_bounds-push_front-start c =
 
 pub returns : goal.returns
 returns c =
-    let absent : There (pair_of c.args.row.now) (sorted_of c.args.w c.args.m c.args.area.now c.args.index.now) → ⊥ = λ t. let n = there-named c.requires.indexed (pair_of c.args.row.now) c.find_row-k.result c.find_row-k.ensures t in elim c.if-k-m.branch [ then-k-m+in_default v ↦ absurd (v.in_default.not-Same (v.compare_at-o.ensures ∙ n.1)) | else-k-m v ↦ omega (arith, n.0) ] in
+    let absent : There (pair_of c.args.row.now) (sorted_of c.args.w c.args.m c.args.area.now c.args.index.now) → ⊥ = λ t. let n = there-named c.requires.indexed (pair_of c.args.row.now) c.find_row-k.result c.find_row-k.ensures t in elim c.if-k-m.branch [ then-k-m+in_default v ↦ absurd (v.in_default.not-Equal (v.compare_at-o.ensures ∙ n.1)) | else-k-m v ↦ omega (arith, n.0) ] in
     let w = c.args.w in
     let h = c.requires.indexed in
     let free : c.args.m < c.args.p = omega (arith, c.if-m-p.false, h.room) in

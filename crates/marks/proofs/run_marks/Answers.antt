@@ -1,11 +1,6 @@
--- `marks::run_marks`: the marks of the first i triples, and of m.
-use Prim.Native.Nat.{◌-◌}
-use native.Mathlib.Omega.{arith}
+-- `marks::run_marks`: the marks of the triples before the index, and of m.
 use Rattle.marks.proofs.Gathering.{within-left, within_more, all-next}
 use Rattle.marks.proofs.run_marks.Goals as goal
 
-pub loop-i-preserved : goal.loop-i-preserved
-loop-i-preserved c =
-    let q = c.loop-i.invariant in
-    let l = c.loop-i-test.true in
-    (omega arith, within_more q.1 (within-left c.loop-i.all _), all-next c.loop-i.all c.args.run.now c.loop-i.i l q.2)
+pub loop-x-preserved : goal.loop-x-preserved
+loop-x-preserved c = (within_more c.loop-x.invariant.0 (within-left c.loop-x.all _), all-next _ _ _ c.loop-x-test.true c.loop-x.invariant.1)

@@ -1,12 +1,8 @@
--- `marks::run_marks`: the marks of the first i triples, and of m.
-use Prim.Native.Nat.{◌-◌, ◌≤◌}
-use lib.ListN.{length, take}
+-- `marks::run_marks`: the marks of the triples before the index, and of m.
+use lib.ListN.{take}
 use Rattle.lists.specs.Lists.{All}
 use Rattle.labels.specs.Sets.{Within}
 use Rattle.marks.proofs.run_marks.Given as goal
 
-abbrev pub invariant-loop-i : goal.invariant-loop-i
-invariant-loop-i l = (l.i ≤ length l.run) × Within l.all l.m × All (Within l.all) (take l.i l.run)
-
-abbrev pub decreases-loop-i : goal.decreases-loop-i
-decreases-loop-i l = length l.run - l.i
+abbrev pub invariant-loop-x : goal.invariant-loop-x
+invariant-loop-x l = Within l.all l.fn.m × All (Within l.all) (take l.x-index l.fn.run)

@@ -1,5 +1,5 @@
 -- `marks::table_marks`: the marks of the rows before j.
-use Prim.Native.Nat.{◌+◌, ◌-◌, ◌*◌}
+use Prim.Native.Nat.{◌+◌, ◌*◌}
 use native.Mathlib.Omega.{arith}
 use Rattle.rows.proofs.Parts.{span}
 use Rattle.rows.proofs.Tables.{readable-slot}
@@ -8,13 +8,12 @@ use Rattle.marks.proofs.table_marks.Goals as goal
 
 pub row_marks-m-requires : goal.row_marks-m-requires
 row_marks-m-requires c =
-    rw (span (c.args.a + c.loop-j.j * c.args.w) c.args.w) (readable-slot c.args.w c.args.p c.args.a c.args.n c.args.ws.now c.requires.2 c.requires.3 c.loop-j.j c.loop-j-test.true)
+    rw (span (c.args.a + c.loop-j.j * c.args.w) c.args.w) (readable-slot _ _ _ _ _ c.requires.2 c.requires.3 c.loop-j.j c.loop-j-test.true)
 
 pub loop-j-preserved : goal.loop-j-preserved
 loop-j-preserved c =
     let q = rw (span (c.args.a + c.loop-j.j * c.args.w) c.args.w) at c.row_marks-m.ensures in
-    (omega (arith, c.loop-j-test.true), marked_next c.args.w c.args.p c.args.a c.args.n c.args.ws.now c.requires.2 c.requires.3 c.loop-j.m c.row_marks-m.result c.loop-j.j c.loop-j.invariant.1 q.0 q.1)
+    marked_next _ _ _ _ _ c.requires.2 c.requires.3 _ _ c.loop-j.j c.loop-j.invariant q.0 q.1
 
 pub returns : goal.returns
-returns c =
-    marked_all c.args.w c.args.p c.args.a c.args.n c.args.ws.now c.requires.2 c.requires.3 c.loop-j.m c.loop-j.j (omega (arith, c.loop-j-test.false)) c.loop-j.invariant.1
+returns c = marked_all _ _ _ _ _ c.requires.2 c.requires.3 _ c.loop-j.j (omega arith) c.loop-j.invariant

@@ -1,6 +1,5 @@
 -- `products::gather_products`: a batch for each number of a. Assumes nothing.
-use mathlib.Core.Path.{◌≡◌}
-use Prim.Native.Nat.{◌≤◌, ◌-◌}
+use Prim.Native.Nat.{◌≤◌}
 use lib.Bits.{bit_or}
 use lib.ListN.{length, take, drop}
 use Rattle.lists.specs.Lists.{products}
@@ -9,9 +8,6 @@ use Rattle.runs.proofs.Growing.{joined}
 use Rattle.products.proofs.Filtering.{Holding}
 use Rattle.products.proofs.gather_products.Given as goal
 
-abbrev pub invariant-loop-i : goal.invariant-loop-i
-invariant-loop-i l =
-    (l.i ≤ length l.a) × (l.m ≤ length l.run) × (length l.run ≡ length l.initial.run) × Holding (joined (products bit_or l.a l.b) (set_of (take l.n l.initial.run))) (products bit_or (drop l.i l.a) l.b) l.m l.run l.seen
-
-abbrev pub decreases-loop-i : goal.decreases-loop-i
-decreases-loop-i l = length l.a - l.i
+abbrev pub invariant-loop-x : goal.invariant-loop-x
+invariant-loop-x l =
+    (l.m ≤ length l.run) × Holding (joined (products bit_or l.a l.b) (set_of (take l.n l.initial.run))) (products bit_or (drop l.x-index l.a) l.b) l.m l.run l.seen

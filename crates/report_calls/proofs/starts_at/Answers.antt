@@ -1,19 +1,14 @@
 -- `report_calls::starts_at`: an offset within the bytes that the walk over them comes to.
 use mathlib.Core.Path.{sym, ◌∙◌}
+use lib.ListN.{length}
+use borrow.Author.Tests.{le-ltb}
 use Rattle.labels.specs.Labels.{label_count}
 use Rattle.report_calls.proofs.Asked.{starts-past, starts_by}
-use native.Mathlib.Omega.{arith}
-use Rattle.places.proofs.locate.Reads as locate-reads
 use Rattle.report_calls.proofs.starts_at.Goals as goal
 
-pub returns-then-asked-s : goal.returns-then-asked-s
-returns-then-asked-s c =
-    starts-past label_count c.args.s.now c.args.asked (omega (arith, c.if-asked-s.true))
+pub returns-then-at-s : goal.returns-then-at-s
+returns-then-at-s c =
+    c.is_some.ensures ∙ starts_by label_count c.args.s.now c.args.at c.if-at-s.true c.locate.result (sym c.locate.ensures)
 
-pub returns-in-Before : goal.returns-in-Before
-returns-in-Before c =
-    starts_by label_count c.args.s.now c.args.asked (omega (arith, c.if-asked-s.false)) _ (sym c.locate-r.ensures ∙ c.in-Before.is)
-
-pub returns-in-Nowhere : goal.returns-in-Nowhere
-returns-in-Nowhere c =
-    starts_by label_count c.args.s.now c.args.asked (omega (arith, c.if-asked-s.false)) _ (sym c.locate-r.ensures ∙ c.in-Nowhere.is)
+pub returns-else-at-s : goal.returns-else-at-s
+returns-else-at-s c = le-ltb c.args.at (length c.args.s.now) c.if-at-s.false ∙ starts-past label_count c.args.s.now c.args.at c.if-at-s.false

@@ -1,6 +1,6 @@
 -- `rows::clear_row`: zeros stand behind the words that a row uses.
 use mathlib.Core.Path.{sym}
-use Prim.Native.Nat.{◌+◌, ◌-◌, ◌≤◌}
+use Prim.Native.Nat.{◌+◌, ◌≤◌}
 use lib.ListN.{length, get_or}
 use lib.Seq.{length-take-le}
 use Rattle.rows.proofs.Single.{row-used, cleared}

@@ -1,41 +1,20 @@
--- `rows::compare_words`: the lists agree up to i.
-use mathlib.Core.Path.{◌≡◌, refl, sym, ◌∙◌}
-use Prim.Native.Nat.{◌-◌}
-use native.Mathlib.Omega.{arith}
-use lib.ListN.{get_or}
-use Rattle.lists.proofs.Comparisons.{is-less, is-more, is_same}
-use Rattle.rows.proofs.Words.{compare-at, compare-longer, compare-shorter, compare-ended}
-use Rattle.rows.proofs.compare_words.Reads as reads
-use Rattle.rows.proofs.compare_words.Lts as lts
+-- `rows::compare_words`: the first difference decides, else the lengths do.
+use Rattle.std.proofs.Common.{◌∙◌, sym, inl, inr, arith}
+use Rattle.rows.proofs.Words.{compare-here, compare-on, compare-ended}
 use Rattle.rows.proofs.compare_words.Goals as goal
 
-pub returns-then-b-i : goal.returns-then-b-i
-returns-then-b-i c =
-    sym (c.loop-i.invariant.2 ∙ compare-longer _ _ c.loop-i.i c.loop-i-test.true c.if-b-i.true)
+pub returns-then-is_ne : goal.returns-then-is_ne
+returns-then-is_ne c =
+    let s = c.in-Some.ensures.steps in
+    sym (c.loop-x.invariant.order ∙ rw (s.0, s.1) (compare-here _ _ _ _ _ c.cmp-order.ensures (sym c.is_ne.ensures ∙ c.if-is_ne.true)))
 
-pub returns-then-x-y : goal.returns-then-x-y
-returns-then-x-y c =
-    sym (c.loop-i.invariant.2 ∙ compare-at _ _ c.loop-i.i c.loop-i-test.true c.if-b-i.false ∙ rw (is-less _ _ c.if-x-y.true))
+pub loop-x-preserved : goal.loop-x-preserved
+loop-x-preserved c =
+    let s = c.in-Some.ensures.steps in record {
+      order = c.loop-x.invariant.order ∙ rw (s.0, s.1) (compare-on _ _ _ _ _ c.cmp-order.ensures (sym c.is_ne.ensures ∙ c.if-is_ne.false));
+      lengths = omega (arith, rw (s.0, s.1) at c.loop-x.invariant.lengths);
+    }
 
-pub returns-then-y-x : goal.returns-then-y-x
-returns-then-y-x c =
-    sym (c.loop-i.invariant.2 ∙ compare-at _ _ c.loop-i.i c.loop-i-test.true c.if-b-i.false ∙ rw (is-more _ _ c.if-y-x.true))
-
-pub loop-i-preserved : goal.loop-i-preserved
-loop-i-preserved c =
-    let a = c.args.a.now in
-    let b = c.args.b.now in
-    let i = c.loop-i.i in
-    let same : get_or a i 0 ≡ get_or b i 0 = omega arith in (
-      omega arith,
-      omega arith,
-      c.loop-i.invariant.2 ∙ compare-at a b i c.loop-i-test.true c.if-b-i.false ∙ rw (same, is_same (get_or b i 0) (get_or b i 0) refl),
-    )
-
-pub returns-then-a-b : goal.returns-then-a-b
-returns-then-a-b c =
-    sym (c.loop-i.invariant.2 ∙ compare-shorter _ _ c.loop-i.i c.loop-i-test.false (omega arith))
-
-pub returns-else-a-b : goal.returns-else-a-b
-returns-else-a-b c =
-    sym (c.loop-i.invariant.2 ∙ compare-ended _ _ c.loop-i.i c.loop-i-test.false (omega arith))
+pub returns : goal.returns
+returns c =
+    c.cmp.ensures ∙ compare-ended _ _ _ _ c.loop-x.invariant.lengths (elim c.in-None.ensures.steps [ inl w ↦ inl w.1.0 | inr w ↦ inr w.1.0 ]) ∙ sym c.loop-x.invariant.order

@@ -1,15 +1,10 @@
--- `rows::compare_words`: the lists agree up to i.
-use mathlib.Core.Path.{◌≡◌}
-use Prim.Native.Nat.{◌≤◌, ◌-◌}
-use lib.ListN.{length, drop}
+-- `rows::compare_words`: what is left decides, and as much is gone of both.
+use Rattle.std.proofs.Common.{◌≡◌, ◌+◌, length}
 use Rattle.lists.specs.Sorted.{compare_lists}
-use Rattle.rows.proofs.compare_words.Reads as reads
-use Rattle.rows.proofs.compare_words.Lts as lts
 use Rattle.rows.proofs.compare_words.Given as goal
 
-abbrev pub invariant-loop-i : goal.invariant-loop-i
-invariant-loop-i l =
-    (l.i ≤ length l.a) × (l.i ≤ length l.b) × (compare_lists l.a l.b ≡ compare_lists (drop l.i l.a) (drop l.i l.b))
-
-abbrev pub decreases-loop-i : goal.decreases-loop-i
-decreases-loop-i l = length l.a - l.i
+abbrev pub invariant-loop-x : goal.invariant-loop-x
+invariant-loop-x l = record {
+  order : compare_lists l.a l.b ≡ compare_lists l.x-iterator.a.rest.now l.x-iterator.b.rest.now;
+  lengths : length l.a + length l.x-iterator.b.rest.now ≡ length l.b + length l.x-iterator.a.rest.now;
+}

@@ -1,6 +1,6 @@
 -- `rows::load_row`: the first words read the same.
 use mathlib.Core.Path.{◌≡◌}
-use Prim.Native.Nat.{◌+◌, ◌-◌}
+use Prim.Native.Nat.{◌+◌}
 use lib.ListN.{length, take, get_or}
 use lib.Seq.{length-take-le, take_at}
 use Rattle.rows.proofs.Single.{read-front}

@@ -1,6 +1,6 @@
 -- `rows::store_row`: the words that the row reads, and zeros where the old row was longer.
 use mathlib.Core.Path.{◌∙◌}
-use Prim.Native.Nat.{◌+◌, ◌-◌, ◌≤◌}
+use Prim.Native.Nat.{◌+◌, ◌≤◌}
 use lib.ListN.{length, get_or}
 use Rattle.rows.proofs.Single.{row-used, stored-long, stored_short}
 use native.Mathlib.Omega.{arith}

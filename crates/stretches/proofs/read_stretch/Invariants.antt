@@ -10,6 +10,3 @@ use Rattle.stretches.proofs.read_stretch.Given as goal
 abbrev pub invariant-loop-count : goal.invariant-loop-count
 invariant-loop-count l =
     (l.count ≤ length l.ops) × (length l.ops ≡ length l.initial.ops) × Chain label_count l.s l.stop l.at l.next (commands_of (take l.count l.ops)) × (l.counts ≡ chain_counts l.initial.counts (commands_of (take l.count l.ops)))
-
-abbrev pub decreases-loop-count : goal.decreases-loop-count
-decreases-loop-count l = length l.initial.ops - l.count

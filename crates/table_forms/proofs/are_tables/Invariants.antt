@@ -1,7 +1,5 @@
 -- `table_forms::are_tables`: the tables left tell of all of them. Assumes nothing.
 use mathlib.Core.Path.{◌≡◌}
-use Prim.Native.Nat.{◌-◌, ◌≤◌}
-use lib.ListN.{length}
 use Rattle.labels.specs.Labels.{label_count}
 use Rattle.forms.specs.Forms.{are_tables}
 use Rattle.table_forms.proofs.Areas.{later}
@@ -9,7 +7,4 @@ use Rattle.table_forms.proofs.are_tables.Given as goal
 
 abbrev pub invariant-loop-i : goal.invariant-loop-i
 invariant-loop-i l =
-    (l.i ≤ length l.counts) × (later label_count l.w l.p l.counts l.ws l.i ≡ are_tables label_count l.w l.p l.counts l.ws)
-
-abbrev pub decreases-loop-i : goal.decreases-loop-i
-decreases-loop-i l = length l.counts - l.i
+    later label_count l.w l.p l.counts l.ws l.i ≡ are_tables label_count l.w l.p l.counts l.ws

@@ -27,24 +27,25 @@ returns-then-not-is_row c =
 
 pub loop-i-init : goal.loop-i-init
 loop-i-init c =
-    (omega arith, omega arith, first_good label_count _ _ _ _ c.if-n-eq0.false c.if-p-n.false (sym c.is_row.ensures ∙ not-false _ (ap not c.if-not-is_row.false)))
+    first_good label_count _ _ _ _ c.if-n-eq0.false c.if-p-n.false (sym c.is_row.ensures ∙ not-false _ (ap not c.if-not-is_row.false))
 
 pub returns-then-not-is_next_row : goal.returns-then-not-is_next_row
 returns-then-not-is_next_row c =
-    let row_before : c.args.w ≤ c.loop-i.i * c.args.w = omega (arith, row_within 0 c.loop-i.i c.args.w c.loop-i.invariant.0) in
+    let row_before : c.args.w ≤ c.loop-i.i * c.args.w = omega (arith, row_within 0 c.loop-i.i c.args.w (omega arith)) in
     let previous : List ℕ = part (c.loop-i.i * c.args.w - c.args.w) c.args.w c.args.area.now in
     let row : List ℕ = part (c.loop-i.i * c.args.w) c.args.w c.args.area.now in
     let told : c.is_next_row.result ≡ follows label_count (pair_of previous) row = let w = c.args.w in let i = c.loop-i.i in rw (span-back (i * w) w row_before, span (i * w) w) at c.is_next_row.ensures in
-    next-bad label_count _ _ _ _ _ c.loop-i.invariant.2.1 c.loop-i-test.true (sym told ∙ not-true _ (ap not c.if-not-is_next_row.true))
+    next-bad label_count _ _ _ _ _ c.loop-i.invariant.1 c.loop-i-test.true (sym told ∙ not-true _ (ap not c.if-not-is_next_row.true))
 
 pub loop-i-preserved : goal.loop-i-preserved
 loop-i-preserved c =
-    let row_before : c.args.w ≤ c.loop-i.i * c.args.w = omega (arith, row_within 0 c.loop-i.i c.args.w c.loop-i.invariant.0) in
+    let row_before : c.args.w ≤ c.loop-i.i * c.args.w = omega (arith, row_within 0 c.loop-i.i c.args.w (omega arith)) in
     let previous : List ℕ = part (c.loop-i.i * c.args.w - c.args.w) c.args.w c.args.area.now in
     let row : List ℕ = part (c.loop-i.i * c.args.w) c.args.w c.args.area.now in
     let told : c.is_next_row.result ≡ follows label_count (pair_of previous) row = let w = c.args.w in let i = c.loop-i.i in rw (span-back (i * w) w row_before, span (i * w) w) at c.is_next_row.ensures in
-    (omega arith, omega arith, next-good label_count _ _ _ _ _ c.loop-i.invariant.2.1 c.loop-i-test.true (sym told ∙ not-false _ (ap not c.if-not-is_next_row.false)))
+    next-good label_count _ _ _ _ _ c.loop-i.invariant.1 c.loop-i-test.true (sym told ∙ not-false _ (ap not c.if-not-is_next_row.false))
 
 pub returns : goal.returns
 returns c =
-    rows-ended label_count _ _ _ _ _ c.loop-i.invariant.2.1 c.loop-i-test.false _ (rw (rest-is (c.loop-i.i * c.args.w) c.args.area.now) at c.are_zero.ensures)
+    let ended : c.loop-i.i ≡ c.args.n = omega arith in
+    rows-ended label_count _ _ _ _ _ c.loop-i.invariant.1 c.loop-i-test.false _ (rw ended (rw (rest-is (c.args.n * c.args.w) c.args.area.now) at c.are_zero.ensures))

@@ -1,6 +1,6 @@
 -- `table_forms::is_table`: the rows left, after the pair of the row before them, tell of the whole table. Assumes nothing.
 use mathlib.Core.Path.{◌≡◌}
-use Prim.Native.Nat.{◌-◌, ◌*◌, ◌≤◌}
+use Prim.Native.Nat.{◌-◌, ◌*◌}
 use Rattle.labels.specs.Labels.{label_count}
 use Rattle.candidates.specs.Candidates.{Readable}
 use Rattle.rows.specs.Parts.{part}
@@ -10,7 +10,4 @@ use Rattle.table_forms.proofs.is_table.Given as goal
 
 abbrev pub invariant-loop-i : goal.invariant-loop-i
 invariant-loop-i l =
-    (1 ≤ l.i) × (l.i ≤ l.n) × (Readable (part (l.i * l.w - l.w) l.w l.area) × (rest label_count l.w l.p l.n l.area l.i ≡ is_table label_count l.w l.p l.n l.area))
-
-abbrev pub decreases-loop-i : goal.decreases-loop-i
-decreases-loop-i l = l.n - l.i
+    Readable (part (l.i * l.w - l.w) l.w l.area) × (rest label_count l.w l.p l.n l.area l.i ≡ is_table label_count l.w l.p l.n l.area)

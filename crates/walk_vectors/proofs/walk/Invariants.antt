@@ -1,9 +1,6 @@
--- `walk` is safe and ends. Assumes nothing.
+-- `walk` ends. Assumes nothing.
 use Rattle.std.proofs.Common.{◌-◌, length}
 use Rattle.walk_vectors.proofs.walk.Given as goal
-
-abbrev pub invariant-loop-p : goal.invariant-loop-p
-invariant-loop-p l = Unit {0}
 
 abbrev pub decreases-loop-p : goal.decreases-loop-p
 decreases-loop-p l = length l.s - l.p.at

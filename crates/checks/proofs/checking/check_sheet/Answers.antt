@@ -10,4 +10,4 @@ returns-then-s-le-BYTE_LIMIT c = passes _ _ _ _ (le-ltb _ _ c.if-s-le-BYTE_LIMIT
 
 pub returns : goal.returns
 unfolding check_sheet overlong_test
-returns c = refuses _ _ _ (lt-ltb _ _ c.if-s-le-BYTE_LIMIT.false)
+returns c = rw c.at.ensures (refuses _ _ _ (lt-ltb _ _ c.if-s-le-BYTE_LIMIT.false))

@@ -1,12 +1,12 @@
 -- `outcomes::depth`: the depth of what passes, or the refusal. Assumes nothing.
-use mathlib.Core.Path.{sym, ap, ◌∙◌}
+use mathlib.Core.Path.{ap}
 use Rattle.expression.specs.Checks.{depth_told, depth_outcome}
 use Rattle.checks.proofs.outcomes.depth.Goals as goal
 
-pub returns-in-Passed : goal.returns-in-Passed
+pub returns-in-Ok : goal.returns-in-Ok
 unfolding depth_outcome
-returns-in-Passed c = ap depth_told (sym c.in-Passed.is ∙ c.check_sheet-r.ensures)
+returns-in-Ok c = ap depth_told c.in-Ok.ensures
 
-pub returns-in-Refused : goal.returns-in-Refused
+pub returns-in-Err : goal.returns-in-Err
 unfolding depth_outcome
-returns-in-Refused c = ap depth_told (sym c.in-Refused.is ∙ c.check_sheet-r.ensures)
+returns-in-Err c = rw c.from.ensures (ap depth_told c.in-Err.ensures)

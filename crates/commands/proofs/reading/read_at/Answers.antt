@@ -1,10 +1,11 @@
 -- `reading::read_at`: each way out is one law of `read_command`. Assumes nothing.
 use mathlib.Core.Path.{sym, ap, ◌∙◌}
-use Prim.Native.Nat.{◌-◌}
+use Prim.Native.Nat.{ℕ, ◌-◌}
 use native.Mathlib.Omega.{arith}
 use lib.ListN.{length, get_or}
 use borrow.Author.Tests.{le-ltb, lt-leb}
-use Rattle.expression.specs.Commands.{tail_length, read_at}
+use Rattle.expression.specs.declared.Command.{Command}
+use Rattle.expression.specs.Commands.{Got, tail_length, read_at}
 use Rattle.expression.proofs.Commands.{few-operands, tail_name, tail-operands, past_end, union-read, name-read, unknown-read, cut-read, group-read, leaf-read, pair_read}
 use Rattle.commands.proofs.reading.read_at.Goals as goal
 
@@ -29,7 +30,7 @@ pub returns-then-n-eq-NAME_LENGTH : goal.returns-then-n-eq-NAME_LENGTH
 unfolding read_at
 returns-then-n-eq-NAME_LENGTH c =
     let x = c.args in
-    c.read_name.ensures ∙ sym (name-read _ _ _ _ _ _ (tail_name _ (omega arith)) ∙ simp (le-ltb (length x.s.now - x.at) 17 (omega arith)))
+    ap (λ (p : Command × ℕ). Got p.0 p.1) c.read_name.ensures ∙ sym (name-read _ _ _ _ _ _ (tail_name _ (omega arith)) ∙ simp (le-ltb (length x.s.now - x.at) 17 (omega arith)))
 
 pub returns-then-i-ge-LABELS : goal.returns-then-i-ge-LABELS
 unfolding read_at
