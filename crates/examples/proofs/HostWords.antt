@@ -3,8 +3,8 @@ use mathlib.Core.Path.{◌≡◌, refl}
 use mathlib.Core.List.{List, [], ◌∷◌, map}
 use Prim.Native.Nat.{ℕ}
 use Rattle.expression.specs.declared.Outcome.TheVariants as outcome
-use Rattle.reporting.specs.Report as report
-use Rattle.records.specs.Steps as walk
+use Rattle.reporting.specs.declared.Report.TheVariants as report
+use Rattle.records.specs.declared.Answer.TheVariants as walk
 use Rattle.host_words.specs.Answers.{returned, unless_short, answer_of}
 use Rattle.host_words.specs.Reported.{report_words_of}
 use Rattle.host_words.specs.Walked.{progress_words_of}

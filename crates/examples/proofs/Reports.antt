@@ -22,7 +22,8 @@ use Rattle.decisions.specs.Decisions.{assumed, commands_in, pairs_fault, plain_f
 use Rattle.walks.specs.Walks.{before}
 use Rattle.leaves.specs.declared.Tables.TheVariants.{Pairs}
 use Rattle.reports.specs.Reports.{entry_words, report_of}
-use Rattle.reporting.specs.Report.{Report, Written, Refused}
+use Rattle.reporting.specs.declared.Report.{Report}
+use Rattle.reporting.specs.declared.Report.TheVariants.{Written, Refused}
 use Rattle.reporting.specs.Reporting.{starts_at, Asked, asked_table, report_answer, report_buffer, words_reported}
 
 -- the sheet, P, G and the offset asked, with a buffer of so many words; what each kind of report answers, and the words that it writes, the others being 9

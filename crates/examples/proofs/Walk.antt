@@ -25,7 +25,9 @@ use Rattle.rows.specs.Rows.{row_of, table_of, rows_in}
 use Rattle.workspace.specs.Workspace.{stack_words, workspace_of, stack_counts, counts_of}
 use Rattle.forms.specs.Forms.{are_zero, rises_from, is_rising, is_row, are_rows, is_table, are_tables, tables_in}
 use Rattle.records.specs.declared.Record.{Record}
-use Rattle.records.specs.Steps.{Answer, Moved, Ended, Refused, Step, stays, start_record, is_formed, formed_at, moves, move_to, command, step, start, conclusion, verdict}
+use Rattle.records.specs.Steps.{Step, stays, start_record, is_formed, formed_at, moves, move_to, command, step, start, conclusion, verdict}
+use Rattle.records.specs.declared.Answer.{Answer}
+use Rattle.records.specs.declared.Answer.TheVariants.{Moved, Ended, Refused}
 
 -- a call: the sheet, P, G and the pins; the record with its first three counts, and the words
 record Call : Type 0 where

@@ -1,6 +1,7 @@
 -- What a host gets of a call of the walk (01, "One command a call"). Nothing of it is free. Assumes nothing.
 use Rattle.std.specs.Prelude.{List, ◌∷◌, ℕ, drop}
-use Rattle.records.specs.Steps.{Answer, Moved, Ended, Refused}
+use Rattle.records.specs.declared.Answer.{Answer}
+use Rattle.records.specs.declared.Answer.TheVariants.{Moved, Ended, Refused}
 use Rattle.host_words.specs.Answers.{answer_words}
 
 -- the three words of what a step answers, 3 moved, 4 ended, or 2 with number and place, and the later words kept

@@ -2,17 +2,14 @@
 #![tactic(auto)]
 
 ghost use Rattle.std.specs.Prelude.{◌≡◌, ◌∷◌, ◌≤◌, length, drop};
-ghost use Rattle.records.specs.Told.{progress_of};
-ghost use Rattle.reporting.specs.Report.{reported_of};
 ghost use Rattle.host_words.specs.Answers.{answer_words, answer_of};
 ghost use Rattle.host_words.specs.Reported.{report_words_of};
 ghost use Rattle.host_words.specs.Walked.{progress_words_of};
 
 use expression::Outcome;
-use expression::refusals::Refusal;
 use outcomes::{kind, place, value};
-use records::Progress;
-use reporting::Written;
+use records::Answer;
+use reporting::Report;
 
 // Kind, value and place.
 pub const ANSWER_WORDS: usize = 3;
@@ -36,24 +33,24 @@ pub fn write_answer(answer: &mut [u64], o: Outcome)
 }
 
 // The three words of what a step answers: 3 moved, 4 ended, or a refusal as that of a decision.
-pub fn write_progress(answer: &mut [u64], x: Result<Progress, Refusal>)
+pub fn write_progress(answer: &mut [u64], x: Answer)
     requires { answer_words ≤ length answer.old }
-    ensures { answer.new ≡ progress_words_of (progress_of x) answer.old }
+    ensures { answer.new ≡ progress_words_of x answer.old }
 {
     match x {
-        Ok(Progress::Moved) => write_words(answer, 3, 0, 0),
-        Ok(Progress::Ended) => write_words(answer, 4, 0, 0),
-        Err(e) => write_answer(answer, Outcome::from(Err(e))),
+        Answer::Moved => write_words(answer, 3, 0, 0),
+        Answer::Ended => write_words(answer, 4, 0, 0),
+        Answer::Refused(number, at) => write_answer(answer, Outcome::Refused(number, at)),
     }
 }
 
 // A report's three words; a refusal is written as that of a decision.
-pub fn write_report(answer: &mut [u64], r: Result<Written, Refusal>)
+pub fn write_report(answer: &mut [u64], r: Report)
     requires { answer_words ≤ length answer.old }
-    ensures { answer.new ≡ report_words_of (reported_of r) answer.old }
+    ensures { answer.new ≡ report_words_of r answer.old }
 {
     match r {
-        Ok(w) => write_words(answer, 1, w.entries, w.words),
-        Err(e) => write_answer(answer, Outcome::from(Err(e))),
+        Report::Written(entries, words) => write_words(answer, 1, entries, words),
+        Report::Refused(number, at) => write_answer(answer, Outcome::Refused(number, at)),
     }
 }

@@ -23,7 +23,8 @@ use Rattle.decisions.specs.Decisions.{Verdict, affirmed, denied, refused, ground
 use Rattle.decisions.proofs.Walks.{Settled}
 use Rattle.leaves.specs.declared.Tables.TheVariants.{Pairs}
 use Rattle.reports.specs.Reports.{report_of}
-use Rattle.reporting.specs.Report.{Report, Written, Refused}
+use Rattle.reporting.specs.declared.Report.{Report}
+use Rattle.reporting.specs.declared.Report.TheVariants.{Written, Refused}
 use Rattle.reporting.specs.Reporting.{starts_at, Asked, asked_table, report_answer, report_buffer}
 use Rattle.report_calls.specs.Parts.{final_table}
 use Rattle.report_calls.proofs.Final.{LastAt, settled-joined, FinalReport, final-report}

@@ -20,6 +20,7 @@ use checks::checking::Terms;
 use expression::Pins;
 use host_words::{ANSWER_WORDS, write_answer, write_report};
 use records::Record;
+use reporting::Report;
 
 // What a host asks of a sheet, as the calls take it.
 fn terms_of(p: u64, g: u64, pins_in: u64, pins_out: u64) -> Terms
@@ -134,7 +135,7 @@ pub extern "C" fn nuntennis_report(
     }
     let terms = terms_of(p, g, pins_in, pins_out);
     let r = report_calls::report(sheet, asked, terms, workspace, report);
-    write_report(answer, r);
+    write_report(answer, Report::from(r));
     1
 }
 
@@ -161,7 +162,7 @@ pub extern "C" fn nuntennis_plain_report(
     }
     let terms = terms_of(p, g, pins_in, pins_out);
     let r = report_calls::plain_report(sheet, asked, terms, workspace, report);
-    write_report(answer, r);
+    write_report(answer, Report::from(r));
     1
 }
 

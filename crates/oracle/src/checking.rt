@@ -44,8 +44,8 @@ pub fn read_whole(s: &[u8]) -> Result<Policy, Unanswered>
     ensures { IfOk result (λ p. (p.fault ≡ None) × (p.depth ≡ 1)) }
 {
     let p = read_to(s, s.len());
-    if let Some(reason) = p.fault {
-        return Err(Unanswered::Refused(reason.number(), p.place));
+    if let Some(number) = p.fault {
+        return Err(Unanswered::Refused(number, p.place));
     }
     refuse_if(p.depth != 1, Reason::Unjoined, s.len())?;
     Ok(p)

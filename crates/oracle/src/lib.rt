@@ -38,7 +38,7 @@ fn refuse_if(holds: bool, reason: Reason, place: usize) -> Result<(), Unanswered
     ensures { OnOk result (holds ≡ false) }
 {
     if holds {
-        return Err(Unanswered::Refused(reason.number(), place));
+        return Err(Unanswered::Refused(reason as u64, place));
     }
     Ok(())
 }

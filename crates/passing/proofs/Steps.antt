@@ -25,7 +25,8 @@ use Rattle.advances.specs.Advances.{Stands}
 use Rattle.advances.proofs.Steps.{fault-none}
 use Rattle.advances.proofs.Bare.{bare, bare-tables}
 use Rattle.records.specs.declared.Record.{Record}
-use Rattle.records.specs.Steps.{Moved, found, formed_at, moves, step}
+use Rattle.records.specs.Steps.{found, formed_at, moves, step}
+use Rattle.records.specs.declared.Answer.TheVariants.{Moved}
 use Rattle.record_tests.proofs.Forming.{found-many, stands}
 use Rattle.starts.proofs.Cases.{step-formed, command-read, move-done}
 

@@ -6,7 +6,6 @@ pub mod building;
 pub mod sets;
 
 use crate::sets::Sets;
-use expression::refusals::Reason;
 
 // Atoms (01: copies), or rules. The first eight are kept, the others counted.
 #[derive(Clone, Copy, Default)]
@@ -22,8 +21,8 @@ pub struct Members {
 pub struct Policy {
     // where the next command starts
     pub at: usize,
-    // why the last command is refused, if it is, and where it started
-    pub fault: Option<Reason>,
+    // the number of the last command's refusal, if it is refused, and where it started
+    pub fault: Option<u64>,
     pub place: usize,
     // how many operands there are, and the most there were at once
     pub depth: u64,
@@ -43,9 +42,10 @@ pub fn no_policy() -> Policy {
     Policy::default()
 }
 
-pub fn refused(p: Policy, fault: Reason) -> Policy {
+// Refused by a number: any but 0, which says that it is not.
+pub fn refused(p: Policy, fault: u64) -> Policy {
     Policy {
-        fault: Some(fault),
+        fault: (fault != 0).then_some(fault),
         ..p
     }
 }

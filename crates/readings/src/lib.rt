@@ -42,7 +42,7 @@ fn done(s: &[u8], p: Policy) -> Policy
 {
     let at = p.at;
     match fault_at(s, p) {
-        Some(fault) => refused(p, fault),
+        Some(reason) => refused(p, reason as u64),
         None => apply(p, s[at], operand(s, at, 1), operand(s, at, 2)),
     }
 }

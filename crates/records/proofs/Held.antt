@@ -27,7 +27,8 @@ use Rattle.workspace.specs.Workspace.{stack_words, workspace_of, stack_counts, c
 use Rattle.workspace.proofs.Areas.{workspace-long}
 use Rattle.stacks.proofs.Counts.{counts-long}
 use Rattle.forms.specs.Forms.{are_tables, tables_in}
-use Rattle.records.specs.Steps.{Ended, Refused, Step, found, is_formed, formed_at, moves, move_to, command, step, conclusion, verdict}
+use Rattle.records.specs.Steps.{Step, found, is_formed, formed_at, moves, move_to, command, step, conclusion, verdict}
+use Rattle.records.specs.declared.Answer.TheVariants.{Ended, Refused}
 use Rattle.records.specs.Walks.{still}
 use Rattle.records.proofs.Formed.{Formed, zeros-zero, stack-formed, stack-found}
 

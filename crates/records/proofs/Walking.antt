@@ -32,7 +32,9 @@ use Rattle.decisions.specs.Decisions.{assumed, commands_in, pairs_fault, newest,
 use Rattle.stacks.proofs.Clearing.{workspace-none}
 use Rattle.advances.proofs.Steps.{walk-nil, walk-on, walk-stops}
 use Rattle.records.specs.declared.Record.{Record}
-use Rattle.records.specs.Steps.{Answer, Ended, Refused, Step, stays, start_record, moves, step, start}
+use Rattle.records.specs.Steps.{Step, stays, start_record, moves, step, start}
+use Rattle.records.specs.declared.Answer.{Answer}
+use Rattle.records.specs.declared.Answer.TheVariants.{Ended, Refused}
 use Rattle.records.specs.Walks.{still, commands, place_of, tables_after, stepped, verdict_on, walking}
 use Rattle.records.proofs.Formed.{Formed}
 use Rattle.records.proofs.Preserved.{Consistent, masks-consistent, act-formed}

@@ -22,7 +22,8 @@ use Rattle.decisions.specs.Decisions.{refused, assumed, newest, Walked, stopped,
 use Rattle.decisions.specs.Outcomes.{without_mask}
 use Rattle.decisions.proofs.Walks.{tables-after, walk-all, commands-suit}
 use Rattle.records.specs.declared.Record.{Record}
-use Rattle.records.specs.Steps.{Ended, Refused, Step, stays, moves, step, start}
+use Rattle.records.specs.Steps.{Step, stays, moves, step, start}
+use Rattle.records.specs.declared.Answer.TheVariants.{Ended, Refused}
 use Rattle.records.specs.Walks.{last_answer, still, commands, place_of, tables_after, stepped, verdict_on, walking, Walks}
 use Rattle.records.proofs.Walking.{stops-more, calls-after, calls-stay, B, fault, Reached, reached-start, so_far, last-call, last-verdict, early-verdict, at_place, vs, reached-next, next-stops, next-refuses}
 

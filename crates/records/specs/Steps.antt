@@ -17,12 +17,8 @@ use Rattle.workspace.specs.Workspace.{workspace_of, counts_of}
 use Rattle.stacks.specs.Stacks.{cleared}
 use Rattle.forms.specs.Forms.{are_zero, are_tables, tables_in}
 use Rattle.records.specs.declared.Record.{Record}
-
--- what a call answers: it did a command, the end was reached before, or a refusal with its number and place
-pub data Answer : Type 0 where
-  Moved : Answer
-  Ended : Answer
-  Refused : ℕ → ℕ → Answer
+use Rattle.records.specs.declared.Answer.{Answer}
+use Rattle.records.specs.declared.Answer.TheVariants.{Moved, Ended, Refused}
 
 -- what a call leaves in record and workspace, and answers
 pub record Step : Type 0 where

@@ -4,7 +4,8 @@ use Rattle.expression.specs.declared.refusals.Refusal.{Refusal}
 use Rattle.expression.specs.Refusals.{number_of}
 use Rattle.records.specs.declared.Progress.{Progress}
 use Rattle.records.specs.declared.Progress.TheVariants as progress
-use Rattle.records.specs.Steps.{Answer, Moved, Ended, Refused}
+use Rattle.records.specs.declared.Answer.{Answer}
+use Rattle.records.specs.declared.Answer.TheVariants.{Moved, Ended, Refused}
 
 abbrev pub progress_of : Result Progress Refusal → Answer
 progress_of (Ok progress.Moved) = Moved

@@ -13,7 +13,9 @@ use Rattle.tables.specs.Exactness.{ExactTables}
 use Rattle.decisions.specs.Decisions.{Verdict, affirmed, denied, refused, assumed, commands_in, pairs_fault, Walked, stopped, walked, walk, grounded}
 use Rattle.decisions.specs.Outcomes.{without_mask}
 use Rattle.records.specs.declared.Record.{Record}
-use Rattle.records.specs.Steps.{Answer, Ended, Refused, Step, stays, moves, step, start, verdict}
+use Rattle.records.specs.Steps.{Step, stays, moves, step, start, verdict}
+use Rattle.records.specs.declared.Answer.{Answer}
+use Rattle.records.specs.declared.Answer.TheVariants.{Ended, Refused}
 
 -- what calls answer in the end: the decision's refusal, or that there is no command left
 abbrev pub last_answer : Verdict → Answer

@@ -2,6 +2,9 @@
 // The place of the next command, how many tables there are, and how many pairs each has, the oldest first.
 #![tactic(auto)]
 
+ghost use Rattle.std.specs.Prelude.{◌≡◌};
+ghost use Rattle.records.specs.Told.{progress_of};
+
 use expression::refusals::Refusal;
 
 #[repr(C)]
@@ -17,6 +20,26 @@ pub struct Record {
 pub enum Progress {
     Moved,
     Ended,
+}
+
+// What a host is told of a call: it did a command, the end was reached before, or a refusal with its number and place.
+#[derive(Clone, Copy)]
+pub enum Answer {
+    Moved,
+    Ended,
+    Refused(u64, usize),
+}
+
+impl From<Result<Progress, Refusal>> for Answer {
+    ghost from_gives = { λ r x. x ≡ progress_of r };
+
+    fn from(r: Result<Progress, Refusal>) -> Answer {
+        match r {
+            Ok(Progress::Moved) => Answer::Moved,
+            Ok(Progress::Ended) => Answer::Ended,
+            Err(e) => Answer::Refused(e.reason.number(), e.place),
+        }
+    }
 }
 
 // The record after a call, be it refused or not, and what is answered.

@@ -20,7 +20,7 @@ use Rattle.advances.specs.Advances.{Stands}
 use Rattle.advances.proofs.Advancing.{loaded}
 use Rattle.leaves.specs.declared.Tables.{Tables}
 use Rattle.reports.specs.Reports.{report_of}
-use Rattle.reporting.specs.Report.{Written, Refused}
+use Rattle.reporting.specs.declared.Report.TheVariants.{Written, Refused}
 use Rattle.reporting.specs.Reporting.{table_at, report_answer, report_buffer}
 
 module _ {d w p : ℕ} {us : List (List Entry)} {beyond ws vals counts : List ℕ} (h : Stands Nothing d w p us beyond ws vals counts) (t : ℕ) (e : length us ≡ t) (n : ℕ) (en : n ≡ count_below t 1 counts) where

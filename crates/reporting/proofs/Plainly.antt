@@ -15,7 +15,7 @@ use Rattle.tables.specs.Definitions.{triples}
 use Rattle.decisions.specs.Decisions.{assumed, commands_in, plain_fault, Walked, stopped, walked, walk}
 use Rattle.decisions.proofs.Numbers.{plain-stops}
 use Rattle.walks.specs.Walks.{before}
-use Rattle.reporting.specs.Report.{Written, Refused}
+use Rattle.reporting.specs.declared.Report.TheVariants.{Written, Refused}
 use Rattle.reporting.specs.Reporting.{starts_at, Asked, refused_at, table_at, newest_in, asked_table, report_answer}
 
 module _ (K P : ℕ) (a : Request) (at : ℕ) where

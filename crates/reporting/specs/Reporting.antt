@@ -9,7 +9,8 @@ use Rattle.tables.specs.Algebras.{Algebra, tables}
 use Rattle.decisions.specs.Decisions.{assumed, commands_in, newest, Walked, stopped, walked, walk}
 use Rattle.walks.specs.Walks.{before}
 use Rattle.stacks.specs.Stacks.{cleared}
-use Rattle.reporting.specs.Report.{Report, Written, Refused}
+use Rattle.reporting.specs.declared.Report.{Report}
+use Rattle.reporting.specs.declared.Report.TheVariants.{Written, Refused}
 
 abbrev pub is_before : Option Counts → Bool
 is_before (Some n) = true

@@ -21,6 +21,24 @@ pub struct Written {
     pub words: u64,
 }
 
+// What a host is told of a report: how many entries and words were written, or a refusal with its number and place.
+#[derive(Clone, Copy)]
+pub enum Report {
+    Written(u64, u64),
+    Refused(u64, usize),
+}
+
+impl From<Result<Written, Refusal>> for Report {
+    ghost from_gives = { λ r x. x ≡ reported_of r };
+
+    fn from(r: Result<Written, Refusal>) -> Report {
+        match r {
+            Ok(w) => Report::Written(w.entries, w.words),
+            Err(e) => Report::Refused(e.reason.number(), e.place),
+        }
+    }
+}
+
 // The newest of t tables, over the front of `out` if it fits there.
 pub fn report_newest(
     ws: &[u32],

@@ -17,7 +17,9 @@ use Rattle.decisions.specs.Decisions.{assumed, pairs_fault, newest}
 use Rattle.workspace.specs.Workspace.{stack_counts, counts_of}
 use Rattle.stacks.specs.Stacks.{cleared}
 use Rattle.records.specs.declared.Record.{Record}
-use Rattle.records.specs.Steps.{Answer, Moved, Ended, Refused, Step, stays, start_record, found, formed_at, moves, move_to, command, step, start}
+use Rattle.records.specs.Steps.{Step, stays, start_record, found, formed_at, moves, move_to, command, step, start}
+use Rattle.records.specs.declared.Answer.{Answer}
+use Rattle.records.specs.declared.Answer.TheVariants.{Moved, Ended, Refused}
 use Rattle.starts.specs.Stepping.{Follows}
 
 module _ (K : ℕ) (a : Request) (r : Record) (ws : List ℕ) where

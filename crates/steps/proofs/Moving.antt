@@ -26,7 +26,8 @@ use Rattle.stacks.proofs.Clearing.{counts-pairs}
 use Rattle.advances.specs.Advances.{Advanced}
 use Rattle.advances.proofs.Steps.{fault-none, fault-some}
 use Rattle.records.specs.declared.Record.{Record}
-use Rattle.records.specs.Steps.{Moved, Refused, moves, move_to}
+use Rattle.records.specs.Steps.{moves, move_to}
+use Rattle.records.specs.declared.Answer.TheVariants.{Moved, Refused}
 use Rattle.starts.specs.Stepping.{Follows}
 use Rattle.starts.proofs.Cases.{by-stays, by_all, move-done, move-refused}
 use Rattle.advances.proofs.Bare.{bare, bare-tables, newest-pairs}

@@ -11,7 +11,7 @@ ghost use Rattle.host_words.specs.Walked.{progress_words_of};
 use checks::checking::Terms;
 use expression::Outcome;
 use host_words::{ANSWER_WORDS, write_answer, write_progress};
-use records::Record;
+use records::{Answer, Record};
 
 // The record after a call, and the number that the call returns.
 #[derive(Clone, Copy)]
@@ -37,7 +37,7 @@ pub fn tell_start(
         return Told { state, returned: 0 };
     }
     let s = starts::start(state, workspace, sheet, terms);
-    write_progress(answer, s.progress);
+    write_progress(answer, Answer::from(s.progress));
     Told {
         state: s.state,
         returned: 1,
@@ -61,7 +61,7 @@ pub fn tell_step(
         return Told { state, returned: 0 };
     }
     let s = steps::advance(state, workspace, sheet, terms);
-    write_progress(answer, s.progress);
+    write_progress(answer, Answer::from(s.progress));
     Told {
         state: s.state,
         returned: 1,

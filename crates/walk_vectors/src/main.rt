@@ -193,7 +193,7 @@ fn stays(
 
 // 18.
 fn bad_record(r: Record) -> Unanswered {
-    Unanswered::Refused(Reason::BadRecord.number(), r.place)
+    Unanswered::Refused(Reason::BadRecord as u64, r.place)
 }
 
 // A verdict and a step that both refuse a record as a bad one.
